@@ -1,0 +1,60 @@
+-- Laws of calls that keep a state: two that agree call by call agree in all their replies.
+-- Assumes nothing.
+use Prim.Native.Nat.{ℕ}
+use mathlib.Core.Bool.{Bool, true, false, cond}
+use mathlib.Core.Path.{_≡_, refl}
+use mathlib.Core.Logic.{_⊎_, inl, inr}
+use mathlib.Core.List.{List, [], _∷_}
+use Rattle.bitset.proofs.Tests.{decided}
+use Rattle.semiautomata.specs.Calls.{refused, Step, Check, checked, replies, final}
+
+-- no check applies
+abbrev pub Passed : List Check → Type 0
+Passed [] = Unit {0}
+Passed (c ∷ cs) = (c .applies ≡ false) × Passed cs
+
+-- the number is that of one of the checks
+abbrev pub Among : ℕ → List Check → Type 0
+Among number [] = ⊥
+Among number (c ∷ cs) = (number ≡ c .number) ⊎ Among number cs
+
+-- what a call with checks is: refused by one of them, with the state kept, or done
+pub data Outcome {A : Type 0} (cs : List Check) (state : A) (done : Step A) : Step A → Type 0 where
+  refuses : (number : ℕ) → Among number cs → Outcome cs state done (record { reply = refused number; state = state })
+  passes : Passed cs → Outcome cs state done done
+
+pub outcome : {A : Type 0} (cs : List Check) (state : A) (done : Step A) → Outcome cs state done (checked cs state done)
+outcome [] state done = passes tt
+outcome (c ∷ cs) state done = go (c .applies) refl (outcome cs state done)
+  where
+    more : (s : Step _) → c .applies ≡ false → Outcome cs state done s → Outcome (c ∷ cs) state done s
+    more s e (refuses r a) = refuses r (inr a)
+    more s e (passes p) = passes (e, p)
+
+    go : (b : Bool) → c .applies ≡ b → Outcome cs state done (checked cs state done)
+        → Outcome (c ∷ cs) state done (cond b (record { reply = refused (c .number); state = state }) (checked cs state done))
+    go true e o = refuses (c .number) (inl refl)
+    go false e o = more (checked cs state done) e o
+
+-- two calls reply the same and leave states that R relates
+pub record Agree {A B : Type 0} (R : A → B → Type 0) (s : Step A) (t : Step B) : Type 0 where
+  pub reply : s .reply ≡ t .reply
+  pub state : R (s .state) (t .state)
+
+module _ {A B : Type 0} (R : A → B → Type 0) where
+  pub checked-agree : (cs : List Check) (a : A) (b : B) (s : Step A) (t : Step B) → R a b → (Passed cs → Agree R s t) → Agree R (checked cs a s) (checked cs b t)
+  checked-agree [] a b s t r h = h tt
+  checked-agree (c ∷ cs) a b s t r h = go (decided (c .applies)) (checked-agree cs a b s t r)
+    where
+      go : (c .applies ≡ true) ⊎ (c .applies ≡ false) → ((Passed cs → Agree R s t) → Agree R (checked cs a s) (checked cs b t)) → Agree R (checked (c ∷ cs) a s) (checked (c ∷ cs) b t)
+      go (inl e) ih = rw e (record { reply = refl; state = r })
+      go (inr e) ih = rw e (ih (λ p. h (e, p)))
+
+  module _ (f : A → ℕ → Step A) (g : B → ℕ → Step B) (agree : (a : A) (b : B) (c : ℕ) → R a b → Agree R (f a c) (g b c)) where
+    pub replies-agree : (cs : List ℕ) (a : A) (b : B) → R a b → replies f a cs ≡ replies g b cs
+    replies-agree [] a b r = refl
+    replies-agree (c ∷ cs) a b r = let s = agree a b c r in rw (s .reply, replies-agree cs (f a c .state) (g b c .state) (s .state))
+
+    pub final-agree : (cs : List ℕ) (a : A) (b : B) → R a b → R (final f a cs) (final g b cs)
+    final-agree [] a b r = r
+    final-agree (c ∷ cs) a b r = final-agree cs (f a c .state) (g b c .state) (agree a b c r .state)

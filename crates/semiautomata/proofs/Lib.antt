@@ -1,0 +1,17 @@
+pub mod Paths
+pub mod Shares
+pub mod Pairs
+pub mod Runs
+pub mod Bound
+pub mod Levels
+pub mod Lassos
+pub mod Decide
+pub mod Computed
+pub mod Positions
+pub mod Selectors
+pub mod Calls
+pub mod Streaming
+pub mod Demand3
+pub mod Lines
+pub mod Plans
+pub mod Theorems

@@ -1,0 +1,41 @@
+-- Paths and the words they spell: joined, split, shortened, and carried into a larger semiautomaton.
+-- Assumes nothing.
+use Prim.Native.Nat.{ℕ, _<_}
+use mathlib.Core.Bool.{true}
+use mathlib.Core.Path.{_≡_, refl}
+use mathlib.Core.List.{List, [], _∷_, _++_}
+use lib.ListN.{take, drop, take-append-drop}
+use Rattle.semiautomata.specs.Semiautomaton.{Semiautomaton, Within, Path, Spells, Sub}
+
+module _ (S : Semiautomaton) where
+  pub path-join : (u v : List ℕ) (s t r : ℕ) → Path S s u t → Path S t v r → Path S s (u ++ v) r
+  path-join [] v s t r p q = rw p q
+  path-join (a ∷ u) v s t r (x, e, p) q = (x, e, path-join u v x t r p q)
+
+  pub path-split : (u v : List ℕ) (s r : ℕ) → Path S s (u ++ v) r → (t : ℕ) × Path S s u t × Path S t v r
+  path-split [] v s r p = (s, refl, p)
+  path-split (a ∷ u) v s r (x, e, p) = let (t, p, q) = path-split u v x r p in (t, (x, e, p), q)
+
+  pub path-lt : Within S → (w : List ℕ) (s t : ℕ) → s < S .n → Path S s w t → t < S .n
+  path-lt W [] s t h p = rw p at h
+  path-lt W (a ∷ w) s t h (x, e, p) = path-lt W w x t (W .to-lt s a x e) p
+
+  pub spells-after : (u v : List ℕ) (s t : ℕ) → Path S s u t → Spells S t v → Spells S s (u ++ v)
+  spells-after u v s t p (r, q) = (r, path-join u v s t r p q)
+
+  pub spells-split : (u v : List ℕ) (s : ℕ) → Spells S s (u ++ v) → (t : ℕ) × Path S s u t × Spells S t v
+  spells-split u v s (r, p) = let (t, p, q) = path-split u v s r p in (t, p, (r, q))
+
+  -- R(s) is prefix-closed
+  pub spells-prefix : (u v : List ℕ) (s : ℕ) → Spells S s (u ++ v) → Spells S s u
+  spells-prefix u v s h = let (t, p, _) = spells-split u v s h in (t, p)
+
+  pub spells-take : (j : ℕ) (w : List ℕ) (s : ℕ) → Spells S s w → Spells S s (take j w)
+  spells-take j w s h = spells-prefix (take j w) (drop j w) s (rw take-append-drop h)
+
+  pub spells-cons : (a : ℕ) (w : List ℕ) (s r : ℕ) → S .edge s a r ≡ true → Spells S r w → Spells S s (a ∷ w)
+  spells-cons a w s r e (t, p) = (t, (r, e, p))
+
+pub path-sub : (S L : Semiautomaton) → Sub S L → (w : List ℕ) (s t : ℕ) → Path S s w t → Path L s w t
+path-sub S L i [] s t p = p
+path-sub S L i (a ∷ w) s t (r, e, p) = (r, i .edge-in s a r e, path-sub S L i w r t p)

@@ -1,0 +1,52 @@
+-- The theorems of specs/Theorems.antt, each by the law that proves it.
+-- Assumes nothing.
+use mathlib.Core.Logic.{inl, inr}
+use Rattle.semiautomata.specs.Semiautomaton.{Semiautomaton}
+use Rattle.semiautomata.specs.Theorems.{Theorems, PlansAreSo}
+use Rattle.semiautomata.proofs.Shares as shares
+use Rattle.semiautomata.proofs.Bound as bounds
+use Rattle.semiautomata.proofs.Levels as levels
+use Rattle.semiautomata.proofs.Decide as decide
+use Rattle.semiautomata.proofs.Computed as computed
+use Rattle.semiautomata.proofs.Positions as positions
+use Rattle.semiautomata.proofs.Selectors as verdicts
+use Rattle.semiautomata.proofs.Streaming as streaming
+use Rattle.semiautomata.proofs.Demand3 as demand
+use Rattle.semiautomata.proofs.Plans as rows
+
+pub theorems : (S : Semiautomaton) → Theorems S
+theorems S = record {
+  unique = λ j k. shares.lookahead-unique;
+  predicts = λ k. shares.lookahead-predicts;
+  either = λ W. elim (decide.lookahead-or-witness S W) [ inl l ↦ inl l | inr (c, w) ↦ inr (decide.witness-unpredictable S c w) ];
+  witness = decide.unpredictable-witness S;
+  refutes = decide.witness-unpredictable S;
+  bound = bounds.lookahead-bound S;
+  bound-one-letter = bounds.lookahead-bound-one S;
+  more = λ j k. shares.predictable-more;
+  smaller-shares = λ L i j s t. shares.share-sub i;
+  smaller-needs = λ L i k. shares.predictable-sub i;
+  level = λ W j s t. (levels.live-out S j s t, levels.live-in S W);
+  level-clash = λ W j. (decide.clash-out S j, decide.clash-in S W j);
+  level-stays = levels.live-fixed S;
+  level-endless = λ W j r e. decide.fixed-endless S W j r (decide.clash-out S j e);
+  spells-is = λ W w s. (computed.spells-out S w s, computed.spells-in S W w s);
+  on-plan-is = λ W w. (computed.walkable-out S (S .initial) w, computed.walkable-in S W (S .initial) (W .initial-lt) w);
+  possible-is = λ W X w i x. (computed.possible-out S X w i x, computed.possible-in S W X w i x);
+  longest-unique = computed.longest-unique S;
+  longest-is = computed.longest-is S;
+  never-grow = positions.possible-earlier S;
+  one-state = streaming.only-state S;
+  minimal-is = λ W X below w. (verdicts.minimal-out S W X below w, verdicts.minimal-in S W X below w);
+  maximal-is = λ W X below w t. (verdicts.maximal-out S W X below w t, verdicts.maximal-in S W X below w t);
+  opening-refused = streaming.opened-none S;
+  opening-taken = λ W k P s e r. streaming.opened-some S W k P s e r;
+  never-14 = streaming.never-14 S;
+  as-plain = streaming.streamed-plain S;
+  plain-refusals = demand.plain-refusals S;
+  ending = demand.finish-whole S;
+  demand3 = λ W k l. demand.demand3 S W k (l .enough);
+}
+
+pub plans-are-so : PlansAreSo
+plans-are-so = rows.plans-say

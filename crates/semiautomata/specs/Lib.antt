@@ -1,0 +1,12 @@
+pub mod Semiautomaton
+pub mod Predictability
+pub mod Walks
+pub mod Selectors
+pub mod Calls
+pub mod PlainWalk
+pub mod Demand3
+pub mod Streaming
+pub mod Lines
+pub mod Plans
+pub mod Levels
+pub mod Theorems
