@@ -6,7 +6,7 @@ use mathlib.Core.Path.{_≡_, refl}
 use mathlib.Core.Logic.{_⊎_, inl, inr}
 use mathlib.Core.List.{List, [], _∷_}
 use Rattle.bitset.proofs.Tests.{decided}
-use Rattle.semiautomata.specs.Calls.{refused, Step, Check, checked, replies, final}
+use Rattle.semiautomata.specs.Calls.{refused, Result, Check, checked, replies, final}
 
 -- no check applies
 abbrev pub Passed : List Check → Type 0
@@ -19,15 +19,15 @@ Among number [] = ⊥
 Among number (c ∷ cs) = (number ≡ c .number) ⊎ Among number cs
 
 -- what a call with checks is: refused by one of them, with the state kept, or done
-pub data Outcome {A : Type 0} (cs : List Check) (state : A) (done : Step A) : Step A → Type 0 where
+pub data Outcome {A : Type 0} (cs : List Check) (state : A) (done : Result A) : Result A → Type 0 where
   refuses : (number : ℕ) → Among number cs → Outcome cs state done (record { reply = refused number; state = state })
   passes : Passed cs → Outcome cs state done done
 
-pub outcome : {A : Type 0} (cs : List Check) (state : A) (done : Step A) → Outcome cs state done (checked cs state done)
+pub outcome : {A : Type 0} (cs : List Check) (state : A) (done : Result A) → Outcome cs state done (checked cs state done)
 outcome [] state done = passes tt
 outcome (c ∷ cs) state done = go (c .applies) refl (outcome cs state done)
   where
-    more : (s : Step _) → c .applies ≡ false → Outcome cs state done s → Outcome (c ∷ cs) state done s
+    more : (s : Result _) → c .applies ≡ false → Outcome cs state done s → Outcome (c ∷ cs) state done s
     more s e (refuses r a) = refuses r (inr a)
     more s e (passes p) = passes (e, p)
 
@@ -37,12 +37,12 @@ outcome (c ∷ cs) state done = go (c .applies) refl (outcome cs state done)
     go false e o = more (checked cs state done) e o
 
 -- two calls reply the same and leave states that R relates
-pub record Agree {A B : Type 0} (R : A → B → Type 0) (s : Step A) (t : Step B) : Type 0 where
+pub record Agree {A B : Type 0} (R : A → B → Type 0) (s : Result A) (t : Result B) : Type 0 where
   pub reply : s .reply ≡ t .reply
   pub state : R (s .state) (t .state)
 
 module _ {A B : Type 0} (R : A → B → Type 0) where
-  pub checked-agree : (cs : List Check) (a : A) (b : B) (s : Step A) (t : Step B) → R a b → (Passed cs → Agree R s t) → Agree R (checked cs a s) (checked cs b t)
+  pub checked-agree : (cs : List Check) (a : A) (b : B) (s : Result A) (t : Result B) → R a b → (Passed cs → Agree R s t) → Agree R (checked cs a s) (checked cs b t)
   checked-agree [] a b s t r h = h tt
   checked-agree (c ∷ cs) a b s t r h = go (decided (c .applies)) (checked-agree cs a b s t r)
     where
@@ -50,7 +50,7 @@ module _ {A B : Type 0} (R : A → B → Type 0) where
       go (inl e) ih = rw e (record { reply = refl; state = r })
       go (inr e) ih = rw e (ih (λ p. h (e, p)))
 
-  module _ (f : A → ℕ → Step A) (g : B → ℕ → Step B) (agree : (a : A) (b : B) (c : ℕ) → R a b → Agree R (f a c) (g b c)) where
+  module _ (f : A → ℕ → Result A) (g : B → ℕ → Result B) (agree : (a : A) (b : B) (c : ℕ) → R a b → Agree R (f a c) (g b c)) where
     pub replies-agree : (cs : List ℕ) (a : A) (b : B) → R a b → replies f a cs ≡ replies g b cs
     replies-agree [] a b r = refl
     replies-agree (c ∷ cs) a b r = let s = agree a b c r in rw (s .reply, replies-agree cs (f a c .state) (g b c .state) (s .state))

@@ -9,16 +9,12 @@ use native.Mathlib.Decide.{ℕ-discrete}
 use Rattle.bitset.proofs.Tests.{and-in, or-left, or-right, or-cases, decided}
 use Rattle.bitset.proofs.Below.{any-in, with-any, any-out}
 use Rattle.semiautomata.specs.Semiautomaton.{Semiautomaton, Within}
-use Rattle.semiautomata.specs.Predictability.{Critical, initial, fork, member, Counts, Share, Clash, Need, Lookahead, Unpredictable, Claim, Witness}
+use Rattle.semiautomata.specs.Predictability.{Critical, initial, fork, member, Counts, Share, Clash, SomeClash, SetPredictable, Need, Lookahead, Unpredictable, Claim, Witness}
 use Rattle.semiautomata.specs.Levels.{live, counts, clashIn, clashOf, clash}
 use Rattle.semiautomata.proofs.Shares.{share-shorter, member-lt, rivals-lt, clash-shorter, clash-ordered, predictable-more}
 use Rattle.semiautomata.proofs.Levels.{with-and, live-in, live-out, live-fixed}
-use Rattle.semiautomata.proofs.Lassos.{lasso-share, share-twin}
+use Rattle.semiautomata.proofs.Lassos.{lasso-share, share-twin, share-ever}
 use Rattle.semiautomata.proofs.Bound.{lookahead-bound}
-
--- two different states of some critical set that counts share a word of j letters
-abbrev pub SomeClash : Semiautomaton → ℕ → Type 0
-SomeClash S j = (T : Critical) × Counts S T × Clash S (member S T) j
 
 -- the test passes below N, or there is a first number at which it fails
 pub first-failure : (p : ℕ → Bool) (N : ℕ) → ((j : ℕ) → j < N → p j ≡ true) ⊎ ((k : ℕ) × (p k ≡ false) × ((j : ℕ) → j < k → p j ≡ true))
@@ -49,6 +45,9 @@ module _ (S : Semiautomaton) where
     | inl h ↦ clashOf-out j initial h
     | inr h ↦ with-any _ _ (λ q _. with-any _ _ λ a _. clashOf-out j (fork q a)) h
   ]
+
+  pub some-shorter : (j k : ℕ) → j ≤ k → SomeClash S k → SomeClash S j
+  some-shorter j k l (T, c, h) = (T, c, clash-shorter l h)
 
   pub witness-unpredictable : (c : Claim) → Witness S c → Unpredictable S
   witness-unpredictable c w k p = p (c .set) (w .counts) (record {
@@ -84,9 +83,6 @@ module _ (S : Semiautomaton) where
     pub clash-in : (j : ℕ) → SomeClash S j → clash S j ≡ true
     clash-in j (T, c, k) = clash-by j T c k
 
-    pub some-shorter : (j k : ℕ) → j ≤ k → SomeClash S k → SomeClash S j
-    some-shorter j k l (T, c, h) = (T, c, clash-shorter l h)
-
     -- the first level without a clash is the look-ahead
     pub lookahead-first : (k : ℕ) → ((j : ℕ) → j < k → clash S j ≡ true) → clash S k ≡ false → Lookahead S k
     lookahead-first k before e = record {
@@ -100,6 +96,15 @@ module _ (S : Semiautomaton) where
       enough = λ h. true≢false (sym (clashIn-in X below k h) ∙ e);
       least = λ j h. clashIn-out X j (before j h);
     }
+
+    pub need-either : (X : ℕ → Bool) → ((s : ℕ) → X s ≡ true → s < S .n) → ((k : ℕ) × Need S X k) ⊎ ((k : ℕ) → ¬ SetPredictable S X k)
+    need-either X below = elim (first-failure (clashIn S X) (suc (S .n * S .n))) [
+      | inl all ↦ inr (λ k p.
+          let c = clashIn-out X (S .n * S .n) (all (S .n * S .n) (omega arith)) in
+          let r = c .rivals in
+          p (record { s = c .s; t = c .t; rivals = r; shared = share-ever S W (c .s) (c .t) (below (c .s) (r .left)) (below (c .t) (r .right)) (c .shared) k }))
+      | inr (k, e, before) ↦ inl (k, need-first X below k before e)
+    ]
 
     -- THE WITNESS
     pub some-witness : SomeClash S (S .n * S .n) → (c : Claim) × Witness S c

@@ -13,15 +13,15 @@ use borrow.Author.Tests.{ltb-true, ltb-false, leb-true, le-leb, lt-leb, not-fals
 use Rattle.bitset.proofs.Tests.{decided, same-test}
 use Rattle.semiautomata.specs.Semiautomaton.{Semiautomaton, Within}
 use Rattle.semiautomata.specs.Predictability.{Predictable}
-use Rattle.semiautomata.specs.Walks.{OnPlan, Only, possible}
-use Rattle.semiautomata.specs.Calls.{Reply, refused, resolved, none, Step, replies, final}
+use Rattle.semiautomata.specs.Walks.{OnPlan, Possible, Only, possible}
+use Rattle.semiautomata.specs.Calls.{Reply, refused, resolved, nothing, Result, replies, final}
 use Rattle.semiautomata.specs.PlainWalk.{stateAt, plainReply, plainChecks, plainFeed, plain, plainTaken}
 use Rattle.semiautomata.specs.Demand3.{accepted, Resolution, resolutionsFrom, resolutions, followed, range, collect, resolution, due, Only11to13, Demand3}
 use Rattle.semiautomata.specs.Streaming.{Rec, base, unresolved, finish, streamed, recordAfter}
 use Rattle.semiautomata.proofs.Computed.{walkable-out}
-use Rattle.semiautomata.proofs.Positions.{possible-earlier}
+use Rattle.semiautomata.proofs.Positions.{possible-earlier, whole-in, whole-out}
 use Rattle.semiautomata.proofs.Calls.{Among, Outcome, refuses, passes, outcome}
-use Rattle.semiautomata.proofs.Streaming.{length-snoc, only-state, Follows, view, streamed-plain, record-follows}
+use Rattle.semiautomata.proofs.Streaming.{length-snoc, empty-walked, only-state, Follows, view, streamed-plain, record-follows}
 
 -- COLLECTING OVER A RANGE
 
@@ -63,8 +63,29 @@ due-window k w state =
     let last = collect-none (followed k w) f (0 + d) (suc (length w) - d) (λ i h _. lt-leb (i + k) (length w) (omega arith)) in
     ap (λ (c : ℕ). collect (followed k w) f (range 0 c)) all ∙ collect-split (followed k w) f d (suc (length w) - d) 0 ∙ rw (first, last) (append-nil _)
 
+-- the resolutions among replies, where i letters are taken once the first is answered, unless it is a refusal
+abbrev counted : ℕ → List Reply → List Resolution
+counted i [] = []
+counted i (refused r ∷ rs) = counted i rs
+counted i (resolved p x ∷ rs) = record { arrived = i; position = p; state = x } ∷ counted (suc i) rs
+counted i (nothing ∷ rs) = counted (suc i) rs
+
+from-counted : (i : ℕ) (rs : List Reply) → resolutionsFrom i rs ≡ counted (suc i) rs
+from-counted i [] = refl
+from-counted i (refused r ∷ rs) = from-counted i rs
+from-counted i (resolved p x ∷ rs) = rw (from-counted (suc i) rs)
+from-counted i (nothing ∷ rs) = from-counted (suc i) rs
+
+resolutions-counted : (S : Semiautomaton) (k : ℕ) (w : List ℕ) (rs : List Reply) → resolutions (plainReply S k w ∷ rs) ≡ counted 0 (plainReply S k w ∷ rs)
+unfolding plainReply
+resolutions-counted S k w rs = go (ltb (length w) k)
+  where
+    go : (b : Bool) → let r = cond b nothing (resolved (length w - k) (stateAt S w (length w - k))) in resolutions (r ∷ rs) ≡ counted 0 (r ∷ rs)
+    go true = from-counted 0 rs
+    go false = rw (from-counted 0 rs)
+
 -- A LETTER OFFERED TO THE PLAIN WALK: refused, or taken with the walk still on the plan
-pub data Offered (S : Semiautomaton) (k : ℕ) (w : List ℕ) (a : ℕ) : Step (List ℕ) → Type 0 where
+pub data Offered (S : Semiautomaton) (k : ℕ) (w : List ℕ) (a : ℕ) : Result (List ℕ) → Type 0 where
   refuses-it : (number : ℕ) → Among number (plainChecks S w a) → Offered S k w a (record { reply = refused number; state = w })
   takes-it : OnPlan S (w ++ (a ∷ [])) → Offered S k w a (record { reply = plainReply S k (w ++ (a ∷ [])); state = w ++ (a ∷ []) })
 
@@ -73,10 +94,10 @@ module _ (S : Semiautomaton) (k : ℕ) where
   unfolding plainFeed
   offered-cases w a = go (plainFeed S k w a) (outcome (plainChecks S w a) w done)
     where
-      done : Step (List ℕ)
+      done : Result (List ℕ)
       done = record { reply = plainReply S k (w ++ (a ∷ [])); state = w ++ (a ∷ []) }
 
-      go : (s : Step (List ℕ)) → Outcome (plainChecks S w a) w done s → Offered S k w a s
+      go : (s : Result (List ℕ)) → Outcome (plainChecks S w a) w done s → Offered S k w a s
       go s (refuses number among) = refuses-it number among
       go s (passes (_, (_, (stuck, _)))) = takes-it (walkable-out S (S .initial) (w ++ (a ∷ [])) (not-false _ stuck))
 
@@ -84,7 +105,7 @@ module _ (S : Semiautomaton) (k : ℕ) where
   unfolding plainReply
   accepted-reply w a more rs = go (ltb (length w) k)
     where
-      go : (b : Bool) → accepted (a ∷ more) (cond b none (resolved (length w - k) (stateAt S w (length w - k))) ∷ rs) ≡ a ∷ accepted more rs
+      go : (b : Bool) → accepted (a ∷ more) (cond b nothing (resolved (length w - k) (stateAt S w (length w - k))) ∷ rs) ≡ a ∷ accepted more rs
       go true = refl
       go false = refl
 
@@ -93,7 +114,7 @@ module _ (S : Semiautomaton) (k : ℕ) where
   final-is [] w = sym (append-nil w)
   final-is (a ∷ rest) w = go (plainFeed S k w a) (offered-cases w a) (final-is rest)
     where
-      go : (t : Step (List ℕ)) → Offered S k w a t → ((u : List ℕ) → final (plainFeed S k) u rest ≡ u ++ accepted rest (replies (plainFeed S k) u rest)) →
+      go : (t : Result (List ℕ)) → Offered S k w a t → ((u : List ℕ) → final (plainFeed S k) u rest ≡ u ++ accepted rest (replies (plainFeed S k) u rest)) →
           final (plainFeed S k) (t .state) rest ≡ w ++ accepted (a ∷ rest) (t .reply ∷ replies (plainFeed S k) (t .state) rest)
       go t (refuses-it r _) ih = ih w
       go t (takes-it o) ih = rw (accepted-reply, ih (w ++ (a ∷ [])), append-assoc)
@@ -102,16 +123,19 @@ module _ (S : Semiautomaton) (k : ℕ) where
   final-walked [] w o = o
   final-walked (a ∷ rest) w o = go (plainFeed S k w a) (offered-cases w a) (final-walked rest)
     where
-      go : (t : Step (List ℕ)) → Offered S k w a t → ((u : List ℕ) → OnPlan S u → OnPlan S (final (plainFeed S k) u rest)) → OnPlan S (final (plainFeed S k) (t .state) rest)
+      go : (t : Result (List ℕ)) → Offered S k w a t → ((u : List ℕ) → OnPlan S u → OnPlan S (final (plainFeed S k) u rest)) → OnPlan S (final (plainFeed S k) (t .state) rest)
       go t (refuses-it r _) ih = ih w o
       go t (takes-it o′) ih = ih (w ++ (a ∷ [])) o′
+
+  pub taken-walked : (s : ℕ) → S .initial s ≡ true → (offered : List ℕ) → OnPlan S (plainTaken S k offered)
+  taken-walked s e offered = final-walked offered [] (empty-walked S s e)
 
   -- the plain walk refuses with 11, 12 and 13 alone
   plain-only : (w : List ℕ) (rs : List Reply) → Only11to13 rs → Only11to13 (plainReply S k w ∷ rs)
   unfolding plainReply
   plain-only w rs h = go (ltb (length w) k)
     where
-      go : (b : Bool) → Only11to13 (cond b none (resolved (length w - k) (stateAt S w (length w - k))) ∷ rs)
+      go : (b : Bool) → Only11to13 (cond b nothing (resolved (length w - k) (stateAt S w (length w - k))) ∷ rs)
       go true = h
       go false = h
 
@@ -119,7 +143,7 @@ module _ (S : Semiautomaton) (k : ℕ) where
   replies-only [] w = tt
   replies-only (a ∷ rest) w = go (plainFeed S k w a) (offered-cases w a) (replies-only rest)
     where
-      go : (t : Step (List ℕ)) → Offered S k w a t → ((u : List ℕ) → Only11to13 (replies (plainFeed S k) u rest)) → Only11to13 (t .reply ∷ replies (plainFeed S k) (t .state) rest)
+      go : (t : Result (List ℕ)) → Offered S k w a t → ((u : List ℕ) → Only11to13 (replies (plainFeed S k) u rest)) → Only11to13 (t .reply ∷ replies (plainFeed S k) (t .state) rest)
       go t (takes-it o) ih = plain-only (w ++ (a ∷ [])) (replies (plainFeed S k) (w ++ (a ∷ [])) rest) (ih (w ++ (a ∷ [])))
       go t (refuses-it r (inl x)) ih = (omega arith, omega arith, ih w)
       go t (refuses-it r (inr (inl x))) ih = (omega arith, omega arith, ih w)
@@ -134,14 +158,18 @@ module _ (S : Semiautomaton) (W : Within S) (k : ℕ) (P : Predictable S k) wher
   left : (ℕ → ℕ) → ℕ → ℕ → List Resolution
   left state l p = window (resolution k state) p (suc l - k - p)
 
+  -- state i is possible at each position i of w that k or more letters follow
+  abbrev Names : (ℕ → ℕ) → List ℕ → Type 0
+  Names state w = (i : ℕ) → i + k ≤ length w → Possible S (S .initial) w i (state i)
+
   -- one call that takes a letter, with what the calls after it resolve
-  one-call : (state : ℕ → ℕ) (w more : List ℕ) (rs : List Reply) → OnPlan S w → ((i : ℕ) → i + k ≤ length (w ++ more) → Only S (w ++ more) i (state i)) →
-      resolutionsFrom (suc (length w)) rs ≡ left state (length (w ++ more)) (suc (length w) - k) →
-      resolutionsFrom (length w) (plainReply S k w ∷ rs) ≡ left state (length (w ++ more)) (length w - k)
+  one-call : (state : ℕ → ℕ) (w more : List ℕ) (rs : List Reply) → OnPlan S w → Names state (w ++ more) →
+      counted (suc (length w)) rs ≡ left state (length (w ++ more)) (suc (length w) - k) →
+      counted (length w) (plainReply S k w ∷ rs) ≡ left state (length (w ++ more)) (length w - k)
   unfolding plainReply left
-  one-call state w more rs o only h = go (decided (ltb (length w) k))
+  one-call state w more rs o names h = go (decided (ltb (length w) k))
     where
-      go : (ltb (length w) k ≡ true) ⊎ (ltb (length w) k ≡ false) → resolutionsFrom (length w) (plainReply S k w ∷ rs) ≡ left state (length (w ++ more)) (length w - k)
+      go : (ltb (length w) k ≡ true) ⊎ (ltb (length w) k ≡ false) → counted (length w) (plainReply S k w ∷ rs) ≡ left state (length (w ++ more)) (length w - k)
       go (inl e) =
           let lt : length w < k = ltb-true (length w) k e in
           let z : length w - k ≡ suc (length w) - k = omega arith in
@@ -150,35 +178,33 @@ module _ (S : Semiautomaton) (W : Within S) (k : ℕ) (P : Predictable S k) wher
           let le : k ≤ length w = ltb-false (length w) k e in
           let p : ℕ = length w - k in
           let len = length-append w more in
-          let same : state p ≡ stateAt S w p = only-state S W k P w p o (omega arith) .only (state p) (possible-earlier S (S .initial) w more p (state p) (omega arith) (only p (omega (arith, len)) .is)) in
+          let here : Possible S (S .initial) w p (state p) = possible-earlier S (S .initial) w more p (state p) (omega arith) (names p (omega (arith, len))) in
+          let same : state p ≡ stateAt S w p = only-state S W k P w p o (omega arith) .only (state p) (whole-in S w o p (state p) (omega arith) here) in
           let next : suc (length w) - k ≡ suc p = omega arith in
           let count : suc (length (w ++ more)) - k - p ≡ suc (suc (length (w ++ more)) - k - suc p) = omega (arith, len) in
           let at : p + k ≡ length w = omega arith in
           rw (plainReply, e, count, at, same, h, next)
 
   -- all calls after w is taken
-  all-calls : (state : ℕ → ℕ) (offered w : List ℕ) →
-      ((i : ℕ) → i + k ≤ length (final (plainFeed S k) w offered) → Only S (final (plainFeed S k) w offered) i (state i)) →
-      resolutionsFrom (suc (length w)) (replies (plainFeed S k) w offered) ≡ left state (length (final (plainFeed S k) w offered)) (suc (length w) - k)
+  all-calls : (state : ℕ → ℕ) (offered w : List ℕ) → Names state (final (plainFeed S k) w offered) →
+      counted (suc (length w)) (replies (plainFeed S k) w offered) ≡ left state (length (final (plainFeed S k) w offered)) (suc (length w) - k)
   unfolding left
-  all-calls state [] w only = let z : suc (length w) - k - (suc (length w) - k) ≡ 0 = omega arith in rw z
-  all-calls state (a ∷ rest) w only = go (plainFeed S k w a) (offered-cases S k w a) (all-calls state rest) only
+  all-calls state [] w names = let z : suc (length w) - k - (suc (length w) - k) ≡ 0 = omega arith in rw z
+  all-calls state (a ∷ rest) w names = go (plainFeed S k w a) (offered-cases S k w a) (all-calls state rest) names
     where
-      All : List ℕ → Type 0
-      All u = (i : ℕ) → i + k ≤ length (final (plainFeed S k) u rest) → Only S (final (plainFeed S k) u rest) i (state i)
-
-      go : (t : Step (List ℕ)) → Offered S k w a t →
-          ((u : List ℕ) → All u → resolutionsFrom (suc (length u)) (replies (plainFeed S k) u rest) ≡ left state (length (final (plainFeed S k) u rest)) (suc (length u) - k)) →
-          All (t .state) →
-          resolutionsFrom (suc (length w)) (t .reply ∷ replies (plainFeed S k) (t .state) rest) ≡ left state (length (final (plainFeed S k) (t .state) rest)) (suc (length w) - k)
-      go t (refuses-it r _) ih only = ih w only
-      go t (takes-it o) ih only =
+      go : (t : Result (List ℕ)) → Offered S k w a t →
+          ((u : List ℕ) → Names state (final (plainFeed S k) u rest) →
+          counted (suc (length u)) (replies (plainFeed S k) u rest) ≡ left state (length (final (plainFeed S k) u rest)) (suc (length u) - k)) →
+          Names state (final (plainFeed S k) (t .state) rest) →
+          counted (suc (length w)) (t .reply ∷ replies (plainFeed S k) (t .state) rest) ≡ left state (length (final (plainFeed S k) (t .state) rest)) (suc (length w) - k)
+      go t (refuses-it r _) ih names = ih w names
+      go t (takes-it o) ih names =
           let u : List ℕ = w ++ (a ∷ []) in
           let more : List ℕ = accepted rest (replies (plainFeed S k) u rest) in
           let f : final (plainFeed S k) u rest ≡ u ++ more = final-is S k rest u in
-          let only′ : (i : ℕ) → i + k ≤ length (u ++ more) → Only S (u ++ more) i (state i) = rw f at only in
-          let ih′ : resolutionsFrom (suc (length u)) (replies (plainFeed S k) u rest) ≡ left state (length (u ++ more)) (suc (length u) - k) = rw f at (ih u only) in
-          rw (← length-snoc w a, f) (one-call state u more (replies (plainFeed S k) u rest) o only′ ih′)
+          let names′ : Names state (u ++ more) = rw f at names in
+          let ih′ : counted (suc (length u)) (replies (plainFeed S k) u rest) ≡ left state (length (u ++ more)) (suc (length u) - k) = rw f at (ih u names) in
+          rw (← length-snoc w a, f) (one-call state u more (replies (plainFeed S k) u rest) o names′ ih′)
 
   finish-follows : (r : Rec) (w : List ℕ) → Follows S W k P r w → finish S k r ≡ unresolved S k (S .initial) w
   unfolding unresolved followed
@@ -204,21 +230,23 @@ module _ (S : Semiautomaton) (W : Within S) (k : ℕ) (P : Predictable S k) wher
     unfolding left followed
     plain-demand3 offered =
         let walk : List ℕ = accepted offered (replies (plainFeed S k) [] offered) in
-        let empty : OnPlan S [] = record { start = s; from-it = e; spells = (s, refl) } in
         let taken-is : plainTaken S k offered ≡ walk = final-is S k offered [] in
-        let walked : OnPlan S walk = rw taken-is at (final-walked S k offered [] empty) in
+        let walked : OnPlan S walk = rw taken-is at (taken-walked S k s e offered) in
         let state : ℕ → ℕ = stateAt S walk in
         let only : (i : ℕ) → i + k ≤ length walk → Only S walk i (state i) = λ i h. only-state S W k P walk i walked h in
+        let names : Names state walk = λ i h. whole-out S walk walked i (state i) (only i h .is) in
         let z : 0 - k ≡ 0 = omega arith in
         let z′ : suc (length walk) - k - 0 ≡ suc (length walk) - k = omega arith in
-        let later : resolutionsFrom 1 (replies (plainFeed S k) [] offered) ≡ left state (length walk) (1 - k) = rw taken-is at (all-calls state offered [] (rw taken-is only)) in
-        let all : resolutions (plain S k offered) ≡ left state (length walk) (0 - k) = one-call state [] walk (replies (plainFeed S k) [] offered) empty only later in
+        let later : counted 1 (replies (plainFeed S k) [] offered) ≡ left state (length walk) (1 - k) = rw taken-is at (all-calls state offered [] (rw taken-is names)) in
+        let all : counted 0 (plain S k offered) ≡ left state (length walk) (0 - k) = one-call state [] walk (replies (plainFeed S k) [] offered) (empty-walked S s e) names later in
         record {
+          start = s;
+          opens = e;
           as-plain = refl;
           same-letters = sym taken-is;
           state = state;
           one = λ i h. only i (leb-true (i + k) (length walk) h);
-          resolves = rw (z, z′) at all ∙ sym (due-window k walk state);
+          resolves = resolutions-counted S k [] (replies (plainFeed S k) [] offered) ∙ rw (z, z′) at all ∙ sym (due-window k walk state);
         }
 
     pub demand3 : (offered : List ℕ) → Demand3 S k offered (streamed S k offered)

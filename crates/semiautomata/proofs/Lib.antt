@@ -12,6 +12,7 @@ pub mod Selectors
 pub mod Calls
 pub mod Streaming
 pub mod Demand3
-pub mod Lines
+pub mod Plan
+pub mod Successors
 pub mod Plans
 pub mod Theorems

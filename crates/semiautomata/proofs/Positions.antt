@@ -8,13 +8,14 @@ use mathlib.Core.List.{List, [], _∷_, _++_}
 use native.Mathlib.Omega.{arith}
 use native.Mathlib.Decide.{ℕ-discrete}
 use lib.ListN.{length, take, drop, getD, take-append-drop, length-drop}
-use lib.Seq.{take-suc, drop-cons, take-append-le, drop-append-le, take-add, drop-drop, length-take-le}
+use lib.Seq.{take-length, take-suc, drop-cons, take-append-le, drop-append-le, take-add, drop-drop, length-take-le}
 use borrow.Author.Tests.{eqb-true, eq-eqb}
 use Rattle.bitset.specs.Sets.{single}
-use Rattle.semiautomata.specs.Semiautomaton.{Semiautomaton, Within, Path, Spells}
+use Rattle.semiautomata.specs.Semiautomaton.{Semiautomaton, Within, Path, Spells, Accessible}
 use Rattle.semiautomata.specs.Predictability.{fork, Counts, SetPredictable, Predictable}
-use Rattle.semiautomata.specs.Walks.{Walkable, Possible}
+use Rattle.semiautomata.specs.Walks.{Walkable, OnPlan, Longest, Possible, PossibleAt}
 use Rattle.semiautomata.proofs.Paths.{path-join, path-split, path-lt, spells-after, spells-split, spells-prefix, spells-take}
+use Rattle.semiautomata.proofs.Computed.{longest-unique}
 
 pub single-is : (s t : ℕ) → single s t ≡ true → t ≡ s
 single-is s t e = sym (eqb-true s t e)
@@ -124,3 +125,18 @@ module _ (S : Semiautomaton) (X : ℕ → Bool) where
           before = rw take-add (path-join S (take j (w ++ v)) (take i (drop j (w ++ v))) (is .start) b y (rw take-append-le (is .before)) p);
           after = rw drop-drop at (c .after);
         }
+
+-- WHOLE WALKS: of a walk that is on the plan, the longest beginning on the plan is the walk itself
+module _ (S : Semiautomaton) (w : List ℕ) (o : OnPlan S w) where
+  on-plan-longest : Longest S w (length w)
+  on-plan-longest = record { fits = omega arith; walked = rw (take-length w) o; most = λ h l _. l }
+
+  pub whole-in : (i x : ℕ) → i ≤ length w → Possible S (S .initial) w i x → PossibleAt S w i x
+  whole-in i x h c = record { g = length w; longest = on-plan-longest; fits = h; is = rw (take-length w) c }
+
+  pub whole-out : (i x : ℕ) → PossibleAt S w i x → Possible S (S .initial) w i x
+  whole-out i x c = rw (longest-unique S w (c .g) (length w) (c .longest) on-plan-longest, take-length w) at (c .is)
+
+-- a possible state of a walk is accessible
+pub possible-accessible : (S : Semiautomaton) (w : List ℕ) (i x : ℕ) → Possible S (S .initial) w i x → Accessible S x
+possible-accessible S w i x c = record { start = c .start; from-it = c .from-it; word = take i w; path = c .before }

@@ -11,26 +11,39 @@ use native.Mathlib.Nat.{zero-add}
 use lib.Dec.{ltb, leb, eqb}
 use lib.ListN.{length, drop, length-append, length-drop}
 use lib.Seq.{drop-append-le, drop-drop}
-use borrow.Author.Tests.{ltb-true, ltb-false, lt-ltb, le-ltb, le-leb, leb-true, leb-false, eqb-true, eq-eqb, not-false}
-use Rattle.bitset.specs.Sets.{single}
+use borrow.Author.Tests.{ltb-true, ltb-false, lt-ltb, le-ltb, le-leb, ne-eqb, leb-true, leb-false, eqb-true, eq-eqb, not-false}
+use Rattle.bitset.specs.Sets.{size, single}
 use Rattle.bitset.proofs.Tests.{and-out, decided, same-test}
-use Rattle.bitset.proofs.Below.{any-in, any-none, Sole, sole-size, least-sole}
+use Rattle.bitset.proofs.Below.{any-in, any-none, size-two, Sole, sole-size, least-sole}
 use Rattle.semiautomata.specs.Semiautomaton.{Semiautomaton, Within}
 use Rattle.semiautomata.specs.Predictability.{initial, SetPredictable, Predictable}
 use Rattle.semiautomata.specs.Walks.{Walkable, OnPlan, Possible, Only, walkable, possible}
-use Rattle.semiautomata.specs.Calls.{refused, none, Step}
+use Rattle.semiautomata.specs.Calls.{refused, nothing, Result}
 use Rattle.semiautomata.specs.PlainWalk.{limit, stateAt, plainReply, plainChecks, plainFeed, plain, plainTaken}
-use Rattle.semiautomata.specs.Streaming.{Rec, base, regular, sound, latest, settle, settled, unopened, opened, feedChecks, feed, streamed, recordAfter}
+use Rattle.semiautomata.specs.Streaming.{Rec, base, rules, every, sound, latest, soleAt, settle, settled, unopened, opened, feedChecks, feed, streamed, recordAfter}
 use Rattle.semiautomata.proofs.Computed.{walkable-out, walkable-in, possible-out, possible-in}
-use Rattle.semiautomata.proofs.Positions.{single-is, possible-lt, some-possible, possible-unique, restart-walkable, resume-walkable, restart-possible, resume-possible}
+use Rattle.semiautomata.proofs.Positions.{single-is, possible-lt, some-possible, possible-unique, restart-walkable, resume-walkable, restart-possible, resume-possible, whole-in, whole-out}
 use Rattle.semiautomata.proofs.Calls.{Among, Outcome, refuses, passes, outcome, Agree, checked-agree, replies-agree, final-agree}
 
 pub length-snoc : (w : List ℕ) (a : ℕ) → length (w ++ (a ∷ [])) ≡ suc (length w)
 length-snoc w a = length-append w (a ∷ []) ∙ add-one (length w)
 
+-- where there is an initial state, the walk of no letters is on the plan
+pub empty-walked : (S : Semiautomaton) (s : ℕ) → S .initial s ≡ true → OnPlan S []
+empty-walked S s e = record { start = s; from-it = e; spells = (s, refl) }
+
 pub opened-none : (S : Semiautomaton) (k : ℕ) → ((s : ℕ) → S .initial s ≡ false) → opened S k .reply ≡ refused 13
 unfolding opened
 opened-none S k h = rw (any-none (S .n) (S .initial) (λ s _. h s))
+
+-- two possible states where a position is due are refused with 14
+pub settle-14 : (S : Semiautomaton) → Within S → (X : ℕ → Bool) → ((s : ℕ) → X s ≡ true → s < S .n) → (k fed : ℕ) → k ≤ fed → (w : List ℕ) (x y : ℕ) → ¬ (x ≡ y)
+    → Possible S X w (length w - k) x → Possible S X w (length w - k) y → settle S k X fed w ≡ refused 14
+unfolding settle soleAt
+settle-14 S W X below k fed late w x y ne c d =
+    let i = length w - k in
+    let two = size-two (S .n) (possible S X w i) x y (possible-lt S X W below c) (possible-lt S X W below d) (possible-in S W X w i x c) (possible-in S W X w i y d) ne in
+    rw (le-ltb fed k late, soleAt, ne-eqb (size (S .n) (possible S X w i)) 1 (λ e. omega arith))
 
 module _ (S : Semiautomaton) (W : Within S) (k : ℕ) (P : Predictable S k) where
   -- WHERE k LETTERS FOLLOW, ONE STATE IS POSSIBLE
@@ -50,15 +63,19 @@ module _ (S : Semiautomaton) (W : Within S) (k : ℕ) (P : Predictable S k) wher
   initial-predictable : SetPredictable S (S .initial) k
   initial-predictable = P initial tt
 
+  -- in a walk that is on the plan, a position with k later letters has one possible state
   pub only-state : (w : List ℕ) (i : ℕ) → OnPlan S w → i + k ≤ length w → Only S w i (stateAt S w i)
   unfolding stateAt
   only-state w i o h =
       let (x, c, s) = sole-possible (S .initial) (W .initial-lt) initial-predictable w i o h in
-      rw (least-sole (S .n) (possible S (S .initial) w i) x s) (record { is = c; only = λ y d. s .only y (possible-lt S (S .initial) W (W .initial-lt) d) (possible-in S W (S .initial) w i y d) })
+      rw (least-sole (S .n) (possible S (S .initial) w i) x s) (record {
+        is = whole-in S w o i x (omega arith) c;
+        only = λ y d. let d = whole-out S w o i y d in s .only y (possible-lt S (S .initial) W (W .initial-lt) d) (possible-in S W (S .initial) w i y d);
+      })
 
   -- THE RECORD r AFTER THE LETTERS w ARE TAKEN
   pub record Follows (r : Rec) (w : List ℕ) : Type 0 where
-    pub legs-are : r .legs ≡ length w
+    pub fed-are : r .fed ≡ length w
     pub held-are : r .held ≡ latest k w
     pub last-none : length w < k → r .last ≡ 255
     pub last-is : k ≤ length w → Possible S (S .initial) w (length w - k) (r .last)
@@ -69,15 +86,15 @@ module _ (S : Semiautomaton) (W : Within S) (k : ℕ) (P : Predictable S k) wher
   pub record View (r : Rec) (w v : List ℕ) : Type 0 where
     pub can : walkable S (base S k r) (r .held ++ v) ≡ walkable S (S .initial) (w ++ v)
     pub at : (i : ℕ) → possible S (base S k r) (r .held ++ v) i ≡ possible S (S .initial) (w ++ v) (length w - k + i)
-    pub last-ok : cond (ltb (r .legs) k) (eqb (r .last) 255) (ltb (r .last) (S .n)) ≡ true
+    pub last-ok : cond (ltb (r .fed) k) (eqb (r .last) 255) (ltb (r .last) (S .n)) ≡ true
 
-  -- while legs < k it holds the whole walk
+  -- while fed < k it holds the whole walk
   view-early : (r : Rec) (w v : List ℕ) → Follows r w → length w < k → View r w v
   unfolding base
   view-early r w v f h =
       let z : length w - k ≡ 0 = omega arith in
       let held : r .held ≡ w = f .held-are ∙ ap (λ (i : ℕ). drop i w) z in
-      let less : ltb (r .legs) k ≡ true = lt-ltb (r .legs) k (omega arith) in
+      let less : ltb (r .fed) k ≡ true = lt-ltb (r .fed) k (omega arith) in
       record { can = rw (less, held); at = λ i. rw (less, held, z, zero-add); last-ok = rw less (eq-eqb (r .last) 255 (f .last-none h)) }
 
   -- from letter k on it holds the resolved state and what follows it
@@ -89,7 +106,7 @@ module _ (S : Semiautomaton) (W : Within S) (k : ℕ) (P : Predictable S k) wher
       let fits : j ≤ length w = omega arith in
       let is : Possible S (S .initial) w j b = f .last-is h in
       let only : (x : ℕ) → Possible S (S .initial) w j x → x ≡ b = λ x c. possible-unique S (S .initial) k initial-predictable P w j x b (omega arith) c is in
-      let more : ltb (r .legs) k ≡ false = le-ltb (r .legs) k (omega arith) in
+      let more : ltb (r .fed) k ≡ false = le-ltb (r .fed) k (omega arith) in
       let b-lt : b < S .n = possible-lt S (S .initial) W (W .initial-lt) is in
       record {
         can = rw (more, f .held-are) (same-test _ _
@@ -119,55 +136,52 @@ module _ (S : Semiautomaton) (W : Within S) (k : ℕ) (P : Predictable S k) wher
       rw (f .held-are, ← o, ← drop-append-le (length w - k) w v fits) (drop-drop (length (drop (length w - k) (w ++ v)) - k) (length w - k) (w ++ v))
 
   pub follows-sound : (r : Rec) (w : List ℕ) → Follows r w → sound S k r ≡ true
-  unfolding sound regular
+  unfolding sound
   follows-sound r w f =
       let v = view r w [] f in
       let same : walkable S (base S k r) (r .held) ≡ walkable S (S .initial) w = rw (append-nil (r .held), append-nil w) at (v .can) in
       let full : walkable S (base S k r) (r .held) ≡ true = same ∙ walkable-in S W (S .initial) (W .initial-lt) w (f .walked) in
-      let len : length (r .held) ≡ min (r .legs) k = rw (f .held-are, length-drop) (omega arith) in
-      rw (le-leb (r .legs) limit (omega arith), eq-eqb (length (r .held)) (min (r .legs) k) len, v .last-ok, full)
+      let len : length (r .held) ≡ min (r .fed) k = rw (f .held-are, length-drop) (omega arith) in
+      rw (le-leb (r .fed) limit (omega arith), eq-eqb (length (r .held)) (min (r .fed) k) len, v .last-ok, full)
 
   -- ONE CALL. What is settled from the set X and the letters u is what the plain walk replies once w is taken
-  settled-agrees : (X : ℕ → Bool) (old : Rec) (legs : ℕ) (u w : List ℕ) → legs ≡ length w → latest k u ≡ latest k w
+  settled-agrees : (X : ℕ → Bool) (old : Rec) (fed : ℕ) (u w : List ℕ) → fed ≡ length w → latest k u ≡ latest k w
       → possible S X u (length u - k) ≡ possible S (S .initial) w (length w - k) → (length w < k → old .last ≡ 255) → length w ≤ limit → OnPlan S w
-      → Agree Follows (settled S k X old legs u) (record { reply = plainReply S k w; state = w })
-  unfolding settle plainReply stateAt
-  settled-agrees X old legs u w l held same last room o = go (decided (ltb (length w) k))
+      → Agree Follows (settled S k X old fed u) (record { reply = plainReply S k w; state = w })
+  unfolding settle soleAt plainReply stateAt
+  settled-agrees X old fed u w l held same last room o = go (decided (ltb (length w) k))
     where
-      go : (ltb (length w) k ≡ true) ⊎ (ltb (length w) k ≡ false) → Agree Follows (settled S k X old legs u) (record { reply = plainReply S k w; state = w })
+      go : (ltb (length w) k ≡ true) ⊎ (ltb (length w) k ≡ false) → Agree Follows (settled S k X old fed u) (record { reply = plainReply S k w; state = w })
       go (inl e) =
           let lt : length w < k = ltb-true (length w) k e in
-          rw (l, settle, e) (record { reply = refl; state = record { legs-are = refl; held-are = held; last-none = last; last-is = λ h. absurd (omega arith); room = room; walked = o } })
+          rw (l, settle, e) (record { reply = refl; state = record { fed-are = refl; held-are = held; last-none = last; last-is = λ h. absurd (omega arith); room = room; walked = o } })
       go (inr e) =
           let le : k ≤ length w = ltb-false (length w) k e in
           let (x, c, s) = sole-possible (S .initial) (W .initial-lt) initial-predictable w (length w - k) o (omega arith) in
           let one = sole-size (S .n) (possible S (S .initial) w (length w - k)) x s in
           let is = least-sole (S .n) (possible S (S .initial) w (length w - k)) x s in
-          rw (l, settle, e, same, one, is) (record { reply = refl; state = record { legs-are = refl; held-are = held; last-none = λ h. absurd (omega arith); last-is = λ _. c; room = room; walked = o } })
+          rw (l, settle, e, same, soleAt, one, is) (record { reply = refl; state = record { fed-are = refl; held-are = held; last-none = λ h. absurd (omega arith); last-is = λ _. c; room = room; walked = o } })
 
   pub feed-agrees : (r : Rec) (w : List ℕ) (a : ℕ) → Follows r w → Agree Follows (feed S k r a) (plainFeed S k w a)
   unfolding feed plainFeed
   feed-agrees r w a f =
       let v = view r w (a ∷ []) f in
-      rw (follows-sound r w f, v .can, ap (leb limit) (f .legs-are))
+      rw (follows-sound r w f, v .can, ap (leb limit) (f .fed-are))
       (checked-agree Follows (plainChecks S w a) r w _ _ f (λ (full, (off, (stuck, _))).
       let room : length w < limit = leb-false limit (length w) full in
       let u : ℕ = length (r .held ++ (a ∷ [])) - k in
-      settled-agrees (base S k r) r (suc (r .legs)) (r .held ++ (a ∷ [])) (w ++ (a ∷ []))
-      (ap suc (f .legs-are) ∙ sym (length-snoc w a)) (held-next r w (a ∷ []) f)
+      settled-agrees (base S k r) r (suc (r .fed)) (r .held ++ (a ∷ [])) (w ++ (a ∷ []))
+      (ap suc (f .fed-are) ∙ sym (length-snoc w a)) (held-next r w (a ∷ []) f)
       (v .at u ∙ ap (possible S (S .initial) (w ++ (a ∷ []))) (offset r w (a ∷ []) f))
       (λ h. f .last-none (omega (arith, length-snoc w a))) (omega (arith, length-snoc w a))
       (walkable-out S (S .initial) (w ++ (a ∷ [])) (not-false _ stuck))))
 
   module _ (s : ℕ) (e : S .initial s ≡ true) where
-    empty-walked : OnPlan S []
-    empty-walked = record { start = s; from-it = e; spells = (s, refl) }
-
     pub opened-agrees : Agree Follows (opened S k) (record { reply = plainReply S k []; state = [] })
     unfolding opened
     opened-agrees =
         rw (any-in (S .n) (S .initial) s (W .initial-lt s e) e)
-        (settled-agrees (S .initial) unopened 0 [] [] refl refl refl (λ _. refl) zero-le empty-walked)
+        (settled-agrees (S .initial) unopened 0 [] [] refl refl refl (λ _. refl) zero-le (empty-walked S s e))
 
     -- for every list of letters offered
     pub streamed-plain : (offered : List ℕ) → streamed S k offered ≡ plain S k offered
@@ -188,45 +202,45 @@ module _ (S : Semiautomaton) (W : Within S) (k : ℕ) (P : Predictable S k) wher
 
   -- 14 ON NO RECORD AT ALL
   pub record Regular (r : Rec) : Type 0 where
-    pub legs-le : r .legs ≤ limit
-    pub held-are : length (r .held) ≡ min (r .legs) k
-    pub last-ok : cond (ltb (r .legs) k) (eqb (r .last) 255) (ltb (r .last) (S .n)) ≡ true
+    pub fed-le : r .fed ≤ limit
+    pub held-are : length (r .held) ≡ min (r .fed) k
+    pub last-ok : cond (ltb (r .fed) k) (eqb (r .last) 255) (ltb (r .last) (S .n)) ≡ true
 
-  pub regular-out : (r : Rec) → regular S k r ≡ true → Regular r
-  unfolding regular
-  regular-out r e =
-      let (a, e) = and-out (leb (r .legs) limit) _ e in
-      let (b, c) = and-out (eqb (length (r .held)) (min (r .legs) k)) _ e in
-      record { legs-le = leb-true _ _ a; held-are = eqb-true _ _ b; last-ok = c }
+  pub rules-out : (r : Rec) → every (rules S k r) ≡ true → Regular r
+  rules-out r e =
+      let (a, e) = and-out (leb (r .fed) limit) _ e in
+      let (b, e) = and-out (eqb (length (r .held)) (min (r .fed) k)) _ e in
+      let (c, _) = and-out (cond (ltb (r .fed) k) (eqb (r .last) 255) (ltb (r .last) (S .n))) _ e in
+      record { fed-le = leb-true _ _ a; held-are = eqb-true _ _ b; last-ok = c }
 
   -- the base of a sound record is k-predictable, and k letters follow the position that is due
   base-good : (r : Rec) → Regular r → ((s : ℕ) → base S k r s ≡ true → s < S .n) × SetPredictable S (base S k r) k
   unfolding base
-  base-good r g = go (decided (ltb (r .legs) k))
+  base-good r g = go (decided (ltb (r .fed) k))
     where
-      go : (ltb (r .legs) k ≡ true) ⊎ (ltb (r .legs) k ≡ false) → ((s : ℕ) → base S k r s ≡ true → s < S .n) × SetPredictable S (base S k r) k
+      go : (ltb (r .fed) k ≡ true) ⊎ (ltb (r .fed) k ≡ false) → ((s : ℕ) → base S k r s ≡ true → s < S .n) × SetPredictable S (base S k r) k
       go (inl e) = rw e (W .initial-lt, initial-predictable)
       go (inr e) = rw e (
         (λ s h. rw (single-is (r .last) s h) (ltb-true (r .last) (S .n) (rw e at (g .last-ok)))),
         (λ c. c .rivals .differ (single-is (r .last) (c .s) (c .rivals .left) ∙ sym (single-is (r .last) (c .t) (c .rivals .right)))),
       )
 
-  settle-not-14 : (r : Rec) (w : List ℕ) → Regular r → length w ≡ suc (length (r .held)) → Walkable S (base S k r) w → ¬ (settle S k (base S k r) (suc (r .legs)) w ≡ refused 14)
-  unfolding settle
-  settle-not-14 r w g l o e = go (decided (ltb (suc (r .legs)) k))
+  settle-not-14 : (r : Rec) (w : List ℕ) → Regular r → length w ≡ suc (length (r .held)) → Walkable S (base S k r) w → ¬ (settle S k (base S k r) (suc (r .fed)) w ≡ refused 14)
+  unfolding settle soleAt
+  settle-not-14 r w g l o e = go (decided (ltb (suc (r .fed)) k))
     where
-      go : (ltb (suc (r .legs)) k ≡ true) ⊎ (ltb (suc (r .legs)) k ≡ false) → ⊥
-      go (inl q) = let x : none ≡ refused 14 = rw (settle, q) at e in let z : _≡_ {A = ℕ} 0 1 = cc in omega arith
+      go : (ltb (suc (r .fed)) k ≡ true) ⊎ (ltb (suc (r .fed)) k ≡ false) → ⊥
+      go (inl q) = let x : nothing ≡ refused 14 = rw (settle, q) at e in let z : _≡_ {A = ℕ} 0 1 = cc in omega arith
       go (inr q) =
-          let late : k ≤ suc (r .legs) = ltb-false _ _ q in
+          let late : k ≤ suc (r .fed) = ltb-false _ _ q in
           let (below, pred) = base-good r g in
           let (x, _, s) = sole-possible (base S k r) below pred w (length w - k) o (omega arith) in
-          let y = rw (settle, q, sole-size (S .n) (possible S (base S k r) w (length w - k)) x s) at e in
+          let y = rw (settle, q, soleAt, sole-size (S .n) (possible S (base S k r) w (length w - k)) x s) at e in
           let z : _≡_ {A = ℕ} 0 1 = cc in omega arith
 
   pub never-14 : (r : Rec) (a : ℕ) → ¬ (feed S k r a .reply ≡ refused 14)
   unfolding feed sound
-  never-14 r a = go (feed S k r a) (outcome (feedChecks S k r a) r (settled S k (base S k r) r (suc (r .legs)) (r .held ++ (a ∷ []))))
+  never-14 r a = go (feed S k r a) (outcome (feedChecks S k r a) r (settled S k (base S k r) r (suc (r .fed)) (r .held ++ (a ∷ []))))
     where
       other : (number : ℕ) → number ≡ 14 → ¬ Among number (feedChecks S k r a)
       other number e (inl x) = omega arith
@@ -235,8 +249,8 @@ module _ (S : Semiautomaton) (W : Within S) (k : ℕ) (P : Predictable S k) wher
       other number e (inr (inr (inr (inl x)))) = omega arith
       other number e (inr (inr (inr (inr x)))) = x
 
-      go : (s : Step Rec) → Outcome (feedChecks S k r a) r (settled S k (base S k r) r (suc (r .legs)) (r .held ++ (a ∷ []))) s → ¬ (s .reply ≡ refused 14)
+      go : (s : Result Rec) → Outcome (feedChecks S k r a) r (settled S k (base S k r) r (suc (r .fed)) (r .held ++ (a ∷ []))) s → ¬ (s .reply ≡ refused 14)
       go s (refuses number among) e = other number (cc) among
       go s (passes (rule, (_, (_, (stuck, _))))) e =
-          settle-not-14 r (r .held ++ (a ∷ [])) (regular-out r (and-out _ _ (not-false _ rule) .0)) (length-snoc (r .held) a)
+          settle-not-14 r (r .held ++ (a ∷ [])) (rules-out r (and-out _ _ (not-false _ rule) .0)) (length-snoc (r .held) a)
           (walkable-out S (base S k r) (r .held ++ (a ∷ [])) (not-false _ stuck)) e

@@ -8,10 +8,10 @@ use mathlib.Core.List.{List, [], _∷_}
 pub data Reply : Type 0 where
   refused : ℕ → Reply
   resolved : ℕ → ℕ → Reply
-  none : Reply
+  nothing : Reply
 
 -- What a call gives: its reply, and the state that it leaves.
-pub record Step (A : Type 0) : Type 0 where
+pub record Result (A : Type 0) : Type 0 where
   pub reply : Reply
   pub state : A
 
@@ -21,15 +21,20 @@ pub record Check : Type 0 where
   pub applies : Bool
 
 -- A call with its refusals in order: the first that applies is the reply and leaves the state; where none applies, the call gives `done`.
-abbrev pub checked : {A : Type 0} → List Check → A → Step A → Step A
+abbrev pub checked : {A : Type 0} → List Check → A → Result A → Result A
 checked [] state done = done
 checked (c ∷ cs) state done = cond (c .applies) (record { reply = refused (c .number); state = state }) (checked cs state done)
 
 -- The replies to letters offered one after the other, and the state after them.
-abbrev pub replies : {A : Type 0} → (A → ℕ → Step A) → A → List ℕ → List Reply
+abbrev pub replies : {A : Type 0} → (A → ℕ → Result A) → A → List ℕ → List Reply
 replies f s [] = []
 replies f s (a ∷ rest) = f s a .reply ∷ replies f (f s a .state) rest
 
-abbrev pub final : {A : Type 0} → (A → ℕ → Step A) → A → List ℕ → A
+abbrev pub final : {A : Type 0} → (A → ℕ → Result A) → A → List ℕ → A
 final f s [] = s
 final f s (a ∷ rest) = final f (f s a .state) rest
+
+-- The number of the first refusal of a list that applies; 0 if none does.
+abbrev pub lowest : List Check → ℕ
+lowest [] = 0
+lowest (c ∷ cs) = cond (c .applies) (c .number) (lowest cs)

@@ -8,7 +8,7 @@ use lib.Dec.{leb}
 use lib.ListN.{length}
 use Rattle.semiautomata.specs.Semiautomaton.{Semiautomaton}
 use Rattle.semiautomata.specs.Walks.{Only}
-use Rattle.semiautomata.specs.Calls.{Reply, refused, resolved, none}
+use Rattle.semiautomata.specs.Calls.{Reply, refused, resolved, nothing}
 use Rattle.semiautomata.specs.PlainWalk.{plain, plainTaken}
 
 -- The letters taken: those offered whose reply is no refusal.
@@ -17,7 +17,7 @@ accepted [] rs = []
 accepted (a ∷ more) [] = []
 accepted (a ∷ more) (refused r ∷ rs) = accepted more rs
 accepted (a ∷ more) (resolved i x ∷ rs) = a ∷ accepted more rs
-accepted (a ∷ more) (none ∷ rs) = a ∷ accepted more rs
+accepted (a ∷ more) (nothing ∷ rs) = a ∷ accepted more rs
 
 -- The same where the first reply is the opening's.
 abbrev pub taken : List ℕ → List Reply → List ℕ
@@ -30,16 +30,19 @@ pub record Resolution : Type 0 where
   pub position : ℕ
   pub state : ℕ
 
--- The resolutions among replies; i letters are taken when the first of them is answered, unless it is a refusal.
+-- The resolutions among the replies to letters, where i are taken before the first of them.
 abbrev pub resolutionsFrom : ℕ → List Reply → List Resolution
 resolutionsFrom i [] = []
 resolutionsFrom i (refused r ∷ rs) = resolutionsFrom i rs
-resolutionsFrom i (resolved p x ∷ rs) = record { arrived = i; position = p; state = x } ∷ resolutionsFrom (suc i) rs
-resolutionsFrom i (none ∷ rs) = resolutionsFrom (suc i) rs
+resolutionsFrom i (resolved p x ∷ rs) = record { arrived = suc i; position = p; state = x } ∷ resolutionsFrom (suc i) rs
+resolutionsFrom i (nothing ∷ rs) = resolutionsFrom (suc i) rs
 
--- All of them, the opening's first: no letter is taken at opening.
+-- All of them, the opening's first, at which no letter is taken.
 abbrev pub resolutions : List Reply → List Resolution
-resolutions rs = resolutionsFrom 0 rs
+resolutions [] = []
+resolutions (refused r ∷ rs) = resolutionsFrom 0 rs
+resolutions (resolved p x ∷ rs) = record { arrived = 0; position = p; state = x } ∷ resolutionsFrom 0 rs
+resolutions (nothing ∷ rs) = resolutionsFrom 0 rs
 
 -- Position i of the walk w is followed by k or more letters.
 unfoldable pub followed : ℕ → List ℕ → ℕ → Bool
@@ -67,9 +70,12 @@ abbrev pub Only11to13 : List Reply → Type 0
 Only11to13 [] = Unit {0}
 Only11to13 (refused r ∷ rs) = (11 ≤ r) × (r ≤ 13) × Only11to13 rs
 Only11to13 (resolved i x ∷ rs) = Only11to13 rs
-Only11to13 (none ∷ rs) = Only11to13 rs
+Only11to13 (nothing ∷ rs) = Only11to13 rs
 
 pub record Demand3 (S : Semiautomaton) (k : ℕ) (offered : List ℕ) (replies : List Reply) : Type 0 where
+  -- opening was not refused: there is an initial state
+  pub start : ℕ
+  pub opens : S .initial start ≡ true
   -- opening and every letter are answered as the plain walk answers at that call
   pub as-plain : replies ≡ plain S k offered
   -- the letters taken are those that the plain walk takes

@@ -8,7 +8,7 @@ use Rattle.semiautomata.specs.Semiautomaton.{Semiautomaton}
 use Rattle.semiautomata.specs.Predictability.{Critical, initial, fork, member}
 
 -- Level 0 has every pair, a state with itself too. A pair stays live if some letter leads both states on to a live pair; the two may
--- meet, and then go on from one state. (The `let` waits until both edges are there.)
+-- meet, and then go on from one state.
 unfoldable pub live : Semiautomaton → ℕ → ℕ → ℕ → Bool
 live S zero s t = true
 live S (suc j) s t =

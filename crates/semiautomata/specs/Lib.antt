@@ -6,7 +6,8 @@ pub mod Calls
 pub mod PlainWalk
 pub mod Demand3
 pub mod Streaming
-pub mod Lines
+pub mod Plan
 pub mod Plans
 pub mod Levels
+pub mod Successors
 pub mod Theorems

@@ -8,19 +8,19 @@ use lib.ListN.{length}
 use Rattle.bitset.specs.Sets.{least}
 use Rattle.semiautomata.specs.Semiautomaton.{Semiautomaton}
 use Rattle.semiautomata.specs.Walks.{walkable, possible}
-use Rattle.semiautomata.specs.Calls.{Reply, resolved, none, Step, Check, checked, replies, final}
+use Rattle.semiautomata.specs.Calls.{Reply, resolved, nothing, Result, Check, checked, replies, final}
 
 -- So many letters are taken at the most.
 unfoldable pub limit : ℕ
 limit = 1000000
 
--- The one possible state at position i of the walk w (the least one, where there are more).
+-- The one possible state at position i of a walk w that is on the plan (the least if there were more, n if there were none).
 unfoldable pub stateAt : Semiautomaton → List ℕ → ℕ → ℕ
 stateAt S w i = least (S .n) (possible S (S .initial) w i)
 
 -- The reply once the letters w are taken: if there are k or more, position (length w - k) with its one possible state.
 unfoldable pub plainReply : Semiautomaton → ℕ → List ℕ → Reply
-plainReply S k w = cond (ltb (length w) k) none (resolved (length w - k) (stateAt S w (length w - k)))
+plainReply S k w = cond (ltb (length w) k) nothing (resolved (length w - k) (stateAt S w (length w - k)))
 
 -- 11 if so many are taken; else 12 if the letter is not below m; else 13 if no initial state can walk the letters taken and then this one.
 abbrev pub plainChecks : Semiautomaton → List ℕ → ℕ → List Check
@@ -30,10 +30,10 @@ plainChecks S w a =
     ∷ record { number = 13; applies = not (walkable S (S .initial) (w ++ (a ∷ []))) }
     ∷ []
 
-unfoldable pub plainFeed : Semiautomaton → ℕ → List ℕ → ℕ → Step (List ℕ)
+unfoldable pub plainFeed : Semiautomaton → ℕ → List ℕ → ℕ → Result (List ℕ)
 plainFeed S k w a = checked (plainChecks S w a) w (record { reply = plainReply S k (w ++ (a ∷ [])); state = w ++ (a ∷ []) })
 
--- The replies to opening and to the letters offered, and the letters taken.
+-- The replies to opening and to the letters offered, and the letters taken, where there is an initial state to open with.
 abbrev pub plain : Semiautomaton → ℕ → List ℕ → List Reply
 plain S k offered = plainReply S k [] ∷ replies (plainFeed S k) [] offered
 

@@ -9,20 +9,22 @@ use lib.Dec.{eqb, ltb}
 use lib.ListN.{length}
 use Rattle.semiautomata.specs.Semiautomaton.{Semiautomaton, Path, Spells}
 
--- The name of a critical set: the initial states, or the fork of a state and a letter, all states that the letter leads to from there.
+-- The name of a critical set: the initial states, or the fork set of a state and a letter, all states that the letter leads to from there.
 pub data Critical : Type 0 where
   initial : Critical
   fork : ℕ → ℕ → Critical
 
+-- The states of a critical set.
 abbrev pub member : Semiautomaton → Critical → ℕ → Bool
 member S initial = S .initial
 member S (fork q a) = S .edge q a
 
--- The critical set that two numbers of a call name: 255 and 0 the initial states, else a state and a letter of S their fork; others none.
+-- The critical set that two numbers of a call name: 255 and 0 the initial states, else a state and a letter of S their fork set; others
+-- none.
 abbrev pub named : Semiautomaton → ℕ → ℕ → Option Critical
 named S q a = cond (eqb q 255 && eqb a 0) (some initial) (cond (ltb q (S .n) && ltb a (S .m)) (some (fork q a)) none)
 
--- Which critical sets count: the initial states, and every fork that is not empty.
+-- Which critical sets count: the initial states, and every fork set that is not empty.
 abbrev pub Counts : Semiautomaton → Critical → Type 0
 Counts S initial = Unit {0}
 Counts S (fork q a) = (t : ℕ) × (S .edge q a t ≡ true)
@@ -47,6 +49,10 @@ pub record Clash (S : Semiautomaton) (X : ℕ → Bool) (j : ℕ) : Type 0 where
   pub rivals : Rivals X s t
   pub shared : Share S j s t
 
+-- Two different states of some critical set that counts do.
+abbrev pub SomeClash : Semiautomaton → ℕ → Type 0
+SomeClash S j = (T : Critical) × Counts S T × Clash S (member S T) j
+
 -- Definition 1 for one set: X is k-predictable.
 abbrev pub SetPredictable : Semiautomaton → (ℕ → Bool) → ℕ → Type 0
 SetPredictable S X k = ¬ Clash S X k
@@ -63,13 +69,14 @@ Predictable S k = (T : Critical) → Counts S T → SetPredictable S (member S T
 -- The look-ahead k (document 01, The count): the least number for which S is k-predictable.
 pub record Lookahead (S : Semiautomaton) (k : ℕ) : Type 0 where
   pub enough : Predictable S k
-  pub least : (j : ℕ) → j < k → (T : Critical) × Counts S T × Clash S (member S T) j
+  pub least : (j : ℕ) → j < k → SomeClash S j
 
 -- No k exists (refusal 15).
 abbrev pub Unpredictable : Semiautomaton → Type 0
 Unpredictable S = (k : ℕ) → ¬ Predictable S k
 
 -- A claim that no k exists (evidence): a critical set by name, two states of it, the letters of a stem (lead-in) and of a cycle (loop).
+-- How a call hands it over, in numbers and a buffer of codes, is said with the call.
 pub record Claim : Type 0 where
   pub set : Critical
   pub s : ℕ

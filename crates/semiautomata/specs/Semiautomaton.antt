@@ -28,6 +28,13 @@ Path S s (a ∷ w) t = (r : ℕ) × (S .edge s a r ≡ true) × Path S r w t
 abbrev pub Spells : Semiautomaton → ℕ → List ℕ → Type 0
 Spells S s w = (t : ℕ) × Path S s w t
 
+-- Some word leads to q from an initial state (003: q is accessible).
+pub record Accessible (S : Semiautomaton) (q : ℕ) : Type 0 where
+  pub start : ℕ
+  pub from-it : S .initial start ≡ true
+  pub word : List ℕ
+  pub path : Path S start word q
+
 -- S has no initial state and no edge that L has not.
 pub record Sub (S L : Semiautomaton) : Type 0 where
   pub initial-in : (s : ℕ) → S .initial s ≡ true → L .initial s ≡ true

@@ -6,16 +6,20 @@ use mathlib.Core.Path.{_≡_}
 use mathlib.Core.Logic.{_⊎_, _↔_}
 use mathlib.Core.List.{List, _++_}
 use lib.ListN.{length}
-use Rattle.semiautomata.specs.Semiautomaton.{Semiautomaton, Within, Spells, Sub}
-use Rattle.semiautomata.specs.Predictability.{Critical, member, Counts, Share, Clash, Predictable, Lookahead, Unpredictable, Claim, Witness}
-use Rattle.semiautomata.specs.Levels.{live, clash, Repeats}
-use Rattle.semiautomata.specs.Walks.{OnPlan, Longest, Possible, Only, spells, walkable, possible, longest}
-use Rattle.semiautomata.specs.Selectors.{MinimalSelector, MaximalNonselector, minimalSelector, maximalNonselector}
+use Rattle.semiautomata.specs.Semiautomaton.{Semiautomaton, Within, Spells, Accessible, Sub}
+use Rattle.semiautomata.specs.Predictability.{Critical, Counts, Share, Clash, SomeClash, SetPredictable, Need, Predictable, Lookahead, Unpredictable, Claim, Witness}
+use Rattle.semiautomata.specs.Levels.{live, counts, clashIn, clash, Repeats}
+use Rattle.semiautomata.specs.Walks.{Walkable, OnPlan, Longest, Possible, PossibleAt, Only, spells, survivors, walkable, possible, longest}
+use Rattle.semiautomata.specs.Selectors.{Survives, Selector, MinimalSelector, MaximalNonselector, selector, minimalSelector, maximalNonselector}
 use Rattle.semiautomata.specs.Calls.{refused}
 use Rattle.semiautomata.specs.PlainWalk.{stateAt, plain, plainTaken}
 use Rattle.semiautomata.specs.Demand3.{Only11to13, Demand3}
-use Rattle.semiautomata.specs.Streaming.{Rec, opened, feed, unresolved, finish, streamed, recordAfter}
-use Rattle.semiautomata.specs.Plans.{AllSay, plans}
+use Rattle.semiautomata.specs.Streaming.{Rec, settle, opened, feed, unresolved, finish, streamed, recordAfter}
+use Rattle.semiautomata.specs.Plans.{AllHold, plans}
+
+-- X is a set of states of S.
+abbrev pub Below : Semiautomaton → (ℕ → Bool) → Type 0
+Below S X = (s : ℕ) → X s ≡ true → s < S .n
 
 pub record Theorems (S : Semiautomaton) : Type 0 where
   -- THE LOOK-AHEAD
@@ -27,45 +31,60 @@ pub record Theorems (S : Semiautomaton) : Type 0 where
   -- unpredictable exactly if there is a witness
   pub witness : Within S → Unpredictable S → (c : Claim) × Witness S c
   pub refutes : (c : Claim) → Witness S c → Unpredictable S
-  -- Theorem 5: k is at most n (n - 1) / 2, and n - 1 where there is only one letter
+  -- k is at most n (n - 1) / 2 (Theorem 5), and at most n - 1 where there is only one letter (Proposition 6)
   pub bound : Within S → (k : ℕ) → Lookahead S k → k ≤ S .n * (S .n - 1) / 2
   pub bound-one-letter : Within S → S .m ≡ 1 → (k : ℕ) → Lookahead S k → k ≤ S .n - 1
-  -- what j letters decide, more letters decide (003, Remark 1)
+  -- what j letters decide, more letters decide: of one set (Remark 1), and of the whole
+  pub more-of-set : (X : ℕ → Bool) (j k : ℕ) → j ≤ k → SetPredictable S X j → SetPredictable S X k
   pub more : (j k : ℕ) → j ≤ k → Predictable S j → Predictable S k
+  -- the need of one set: there is one at the most, and there is one or the set is k-predictable for no k
+  pub need-unique : (X : ℕ → Bool) (j k : ℕ) → Need S X j → Need S X k → j ≡ k
+  pub need-either : Within S → (X : ℕ → Bool) → Below S X → ((k : ℕ) × Need S X k) ⊎ ((k : ℕ) → ¬ SetPredictable S X k)
   -- a smaller semiautomaton shares no more words, so it needs no more letters
   pub smaller-shares : (L : Semiautomaton) → Sub S L → (j s t : ℕ) → Share S j s t → Share L j s t
   pub smaller-needs : (L : Semiautomaton) → Sub S L → (k : ℕ) → Predictable L k → Predictable S k
   -- LEVELS
-  -- level j has the pairs that share a word of j letters, and a clash at level j is two rivals among them
+  -- level j has the pairs that share a word of j letters; a clash at level j is two rivals among them
   pub level : Within S → (j s t : ℕ) → (live S j s t ≡ true) ↔ Share S j s t
-  pub level-clash : Within S → (j : ℕ) → (clash S j ≡ true) ↔ ((T : Critical) × Counts S T × Clash S (member S T) j)
+  pub level-set : Within S → (X : ℕ → Bool) → Below S X → (j : ℕ) → (clashIn S X j ≡ true) ↔ Clash S X j
+  pub level-counts : Within S → (T : Critical) → (counts S T ≡ true) ↔ Counts S T
+  pub level-clash : Within S → (j : ℕ) → (clash S j ≡ true) ↔ SomeClash S j
   -- a level that repeats is for ever, and if it has a clash, there is no k
   pub level-stays : (j : ℕ) → Repeats S j → (i : ℕ) → j ≤ i → (s t : ℕ) → s < S .n → t < S .n → live S i s t ≡ live S j s t
   pub level-endless : Within S → (j : ℕ) → Repeats S j → clash S j ≡ true → Unpredictable S
   -- WALKS
   -- the tests that compute say what they mean
   pub spells-is : Within S → (w : List ℕ) (s : ℕ) → (spells S w s ≡ true) ↔ Spells S s w
-  pub on-plan-is : Within S → (w : List ℕ) → (walkable S (S .initial) w ≡ true) ↔ OnPlan S w
+  pub walkable-is : Within S → (X : ℕ → Bool) → Below S X → (w : List ℕ) → (walkable S X w ≡ true) ↔ Walkable S X w
   pub possible-is : Within S → (X : ℕ → Bool) (w : List ℕ) (i x : ℕ) → (possible S X w i x ≡ true) ↔ Possible S X w i x
   -- there is one longest beginning on the plan where there is an initial state
   pub longest-unique : (w : List ℕ) (g h : ℕ) → Longest S w g → Longest S w h → g ≡ h
   pub longest-is : Within S → (s : ℕ) → S .initial s ≡ true → (w : List ℕ) → Longest S w (longest S w)
+  -- where the whole walk is on the plan, its possible states are those of its letters walked from the initial states; they are accessible
+  pub whole-walk : (w : List ℕ) → OnPlan S w → (i x : ℕ) → i ≤ length w → PossibleAt S w i x ↔ Possible S (S .initial) w i x
+  pub accessible : (w : List ℕ) (i x : ℕ) → Possible S (S .initial) w i x → Accessible S x
   -- Theorem 3's sets never grow with later letters
   pub never-grow : (X : ℕ → Bool) (w v : List ℕ) (i x : ℕ) → i ≤ length w → Possible S X (w ++ v) i x → Possible S X w i x
   -- with k later letters there is exactly one possible state
   pub one-state : Within S → (k : ℕ) → Predictable S k → (w : List ℕ) (i : ℕ) → OnPlan S w → i + k ≤ length w → Only S w i (stateAt S w i)
-  -- VERDICTS, for any set of states
-  pub minimal-is : Within S → (X : ℕ → Bool) → ((s : ℕ) → X s ≡ true → s < S .n) → (w : List ℕ) → (minimalSelector S X w ≡ true) ↔ MinimalSelector S X w
-  pub maximal-is : Within S → (X : ℕ → Bool) → ((s : ℕ) → X s ≡ true → s < S .n) → (w : List ℕ) (t : ℕ) → (maximalNonselector S X w t ≡ true) ↔ MaximalNonselector S X w t
+  -- VERDICTS, for any set of states: the tests that compute say what they mean
+  pub survivors-is : Within S → (X : ℕ → Bool) → Below S X → (w : List ℕ) (t : ℕ) → (survivors S X w t ≡ true) ↔ Survives S X w t
+  pub selector-is : Within S → (X : ℕ → Bool) → Below S X → (w : List ℕ) → (selector S X w ≡ true) ↔ Selector S X w
+  pub minimal-is : Within S → (X : ℕ → Bool) → Below S X → (w : List ℕ) → (minimalSelector S X w ≡ true) ↔ MinimalSelector S X w
+  pub maximal-is : Within S → (X : ℕ → Bool) → Below S X → (w : List ℕ) (t : ℕ) → (maximalNonselector S X w t ≡ true) ↔ MaximalNonselector S X w t
   -- THE STREAMING RULE, with a k for which S is k-predictable
   -- opening is refused exactly if there is no initial state
   pub opening-refused : (k : ℕ) → ((s : ℕ) → S .initial s ≡ false) → opened S k .reply ≡ refused 13
   pub opening-taken : Within S → (k : ℕ) → Predictable S k → (s : ℕ) → S .initial s ≡ true → (r : ℕ) → ¬ (opened S k .reply ≡ refused r)
-  -- 14 is met on no record at all
+  -- 14 is met on no record at all; with another k it is met where two states are possible at the position that is due
   pub never-14 : Within S → (k : ℕ) → Predictable S k → (r : Rec) (a : ℕ) → ¬ (feed S k r a .reply ≡ refused 14)
+  pub when-14 : Within S → (X : ℕ → Bool) → Below S X → (k fed : ℕ) → k ≤ fed → (w : List ℕ) (x y : ℕ) → ¬ (x ≡ y)
+      → Possible S X w (length w - k) x → Possible S X w (length w - k) y → settle S k X fed w ≡ refused 14
   -- from a fresh opening on, it replies as the plain walk to every list of letters offered; so 10 and 14 are never met there
   pub as-plain : Within S → (k : ℕ) → Predictable S k → (s : ℕ) → S .initial s ≡ true → (offered : List ℕ) → streamed S k offered ≡ plain S k offered
   pub plain-refusals : (k : ℕ) (offered : List ℕ) → Only11to13 (plain S k offered)
+  -- the letters that the plain walk takes are on the plan
+  pub plain-on-plan : (k s : ℕ) → S .initial s ≡ true → (offered : List ℕ) → OnPlan S (plainTaken S k offered)
   -- ending gives the possible states of the whole walk at the positions that are not resolved
   pub ending : Within S → (k : ℕ) → Predictable S k → (s : ℕ) → S .initial s ≡ true → (offered : List ℕ)
       → finish S k (recordAfter S k offered) ≡ unresolved S k (S .initial) (plainTaken S k offered)
@@ -74,4 +93,4 @@ pub record Theorems (S : Semiautomaton) : Type 0 where
 
 -- Plans A to H have the look-ahead that document 01 says.
 abbrev pub PlansAreSo : Type 0
-PlansAreSo = AllSay plans
+PlansAreSo = AllHold plans

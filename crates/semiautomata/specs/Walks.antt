@@ -25,18 +25,25 @@ pub record Longest (S : Semiautomaton) (w : List ℕ) (g : ℕ) : Type 0 where
   pub most : (h : ℕ) → h ≤ length w → OnPlan S (take h w) → h ≤ g
 
 -- x is a possible state at position i of the word w walked from the set X: reached from X by the first i letters, and from it the other
--- letters can be walked. A whole walk is walked from the initial states, and w is its longest beginning on the plan; a record's letters
--- are walked from its base.
+-- letters of w can be walked. A record's letters are walked from its base.
 pub record Possible (S : Semiautomaton) (X : ℕ → Bool) (w : List ℕ) (i x : ℕ) : Type 0 where
   pub start : ℕ
   pub from-it : X start ≡ true
   pub before : Path S start (take i w) x
   pub after : Spells S x (drop i w)
 
--- x is the one possible state at position i of the walk w.
+-- x is a possible state at position i of the whole walk w (Theorem 3): with g the length of its longest beginning on the plan, reached
+-- from an initial state by the first i letters, and from it letters i + 1 to g can be walked.
+pub record PossibleAt (S : Semiautomaton) (w : List ℕ) (i x : ℕ) : Type 0 where
+  pub g : ℕ
+  pub longest : Longest S w g
+  pub fits : i ≤ g
+  pub is : Possible S (S .initial) (take g w) i x
+
+-- x is the one possible state at position i of the whole walk w.
 pub record Only (S : Semiautomaton) (w : List ℕ) (i x : ℕ) : Type 0 where
-  pub is : Possible S (S .initial) w i x
-  pub only : (y : ℕ) → Possible S (S .initial) w i y → y ≡ x
+  pub is : PossibleAt S w i x
+  pub only : (y : ℕ) → PossibleAt S w i y → y ≡ x
 
 -- THE SAME AS TESTS THAT COMPUTE
 

@@ -1,0 +1,28 @@
+-- A semiautomaton by numbers: the set of initial states, and a list of successor sets, one for each state and letter.
+-- Assumes nothing.
+use Prim.Native.Nat.{ℕ, _+_, _*_, _^_, _≤_, _<_}
+use mathlib.Core.Bool.{_&&_}
+use mathlib.Core.List.{List}
+use lib.Dec.{ltb}
+use lib.ListN.{length, getD}
+use Rattle.bitset.specs.Sets.{has}
+use Rattle.semiautomata.specs.Semiautomaton.{Semiautomaton}
+
+-- the place of the states that letter a leads to from state q
+abbrev pub place : ℕ → ℕ → ℕ → ℕ
+place m q a = q * m + a
+
+abbrev pub successors : ℕ → ℕ → ℕ → List ℕ → Semiautomaton
+successors n m starts sets = record {
+  n = n;
+  m = m;
+  initial = has starts;
+  edge = λ q a t. ltb q n && (ltb a m && has (getD sets (place m q a) 0) t);
+}
+
+-- The sets are sets of states below n: at most 64 states and 32 letters, a set for each state and letter, and no bit n or higher.
+pub record Fit (n m : ℕ) (sets : List ℕ) : Type 0 where
+  pub states : n ≤ 64
+  pub letters : m ≤ 32
+  pub room : n * m ≤ length sets
+  pub below : (i : ℕ) → i < n * m → getD sets i 0 < 2 ^ n
