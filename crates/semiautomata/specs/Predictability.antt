@@ -6,7 +6,7 @@ use mathlib.Core.Option.{Option, some, none}
 use mathlib.Core.Path.{_≡_}
 use mathlib.Core.List.{List}
 use lib.Dec.{eqb, ltb}
-use lib.ListN.{length}
+use lib.ListN.{length, take, drop}
 use Rattle.semiautomata.specs.Semiautomaton.{Semiautomaton, Path, Spells}
 
 -- The name of a critical set: the initial states, or the fork set of a state and a letter, all states that the letter leads to from there.
@@ -76,7 +76,6 @@ abbrev pub Unpredictable : Semiautomaton → Type 0
 Unpredictable S = (k : ℕ) → ¬ Predictable S k
 
 -- A claim that no k exists (evidence): a critical set by name, two states of it, the letters of a stem (lead-in) and of a cycle (loop).
--- How a call hands it over, in numbers and a buffer of codes, is said with the call.
 pub record Claim : Type 0 where
   pub set : Critical
   pub s : ℕ
@@ -100,3 +99,11 @@ pub record Witness (S : Semiautomaton) (c : Claim) : Type 0 where
   pub short : length (c .stem) + length (c .cycle) ≤ S .n * S .n
   pub s-lasso : Lasso S (c .s) (c .stem) (c .cycle)
   pub t-lasso : Lasso S (c .t) (c .stem) (c .cycle)
+
+-- A claim as a call hands it over is true: two numbers name the critical set, then two states, the lengths of stem and cycle, and the
+-- letters of the stem and then of the cycle. Letters past the lengths are not read.
+pub record Claimed (S : Semiautomaton) (q a s t stem cycle : ℕ) (letters : List ℕ) : Type 0 where
+  pub set : Critical
+  pub names : named S q a ≡ some set
+  pub there : stem + cycle ≤ length letters
+  pub witness : Witness S (record { set = set; s = s; t = t; stem = take stem letters; cycle = take cycle (drop stem letters) })
