@@ -1,0 +1,5 @@
+pub mod Tests
+pub mod Groups
+pub mod Entering
+pub mod Refusals
+pub mod Loading

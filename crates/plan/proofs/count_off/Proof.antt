@@ -1,0 +1,12 @@
+-- `plan::count_off` meets its contract.
+-- Assumes nothing.
+use mathlib.Core.Bool.{or-assoc}
+use Rattle.plan.proofs.Tests.{not-and, not-leb}
+use Rattle.plan.proofs.count_off.Statement.{statement}
+use Rattle.plan.proofs.count_off.Tie as tie
+
+returns : tie.Need-returns
+returns c = simp (not-and, not-leb, or-assoc)
+
+pub count-off-spec : {M : Type 1} → statement M
+count-off-spec = tie.close (tie.spec returns)

@@ -1,0 +1,32 @@
+-- `plan::group::group_of` meets its contract.
+-- Assumes nothing.
+use mathlib.Core.Path.{ap, sym}
+use native.Mathlib.Omega.{arith}
+use Rattle.plan.specs.Groups.{groupOf}
+use Rattle.plan.proofs.Groups.{author, caller, logger, nobody-low, nobody-high}
+use Rattle.plan.proofs.group.group_of.Statement.{statement}
+use Rattle.plan.proofs.group.group_of.Tie as tie
+
+returns : tie.Need-returns
+returns c = logger (c .before .before .before .before .before .args .number) (omega arith) (omega arith)
+
+returns-2 : tie.Need-returns-2
+returns-2 c = nobody-low (c .before .before .args .number) (omega arith)
+
+returns-3 : tie.Need-returns-3
+returns-3 c = nobody-high (c .before .before .before .before .before .args .number) (omega (arith, c .before .before .before .before .match .rest))
+
+returns-4 : tie.Need-returns-4
+returns-4 c = sym (ap groupOf (c .match .keys2))
+
+returns-5 : tie.Need-returns-5
+returns-5 c = caller (c .before .before .before .before .args .number) (omega arith) (omega arith)
+
+returns-6 : tie.Need-returns-6
+returns-6 c = sym (ap groupOf (c .match .keys1))
+
+returns-7 : tie.Need-returns-7
+returns-7 c = author (c .before .before .before .args .number) (omega arith) (omega arith)
+
+pub group-of-spec : {M : Type 1} → statement M
+group-of-spec = tie.close (tie.spec returns returns-2 returns-3 returns-4 returns-5 returns-6 returns-7)

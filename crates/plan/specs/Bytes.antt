@@ -1,0 +1,92 @@
+-- Plan bytes (document 01): what stands where, what the bytes mean, and refusals 1 to 7.
+-- Assumes nothing.
+use Prim.Native.Nat.{ℕ, _+_, _*_}
+use mathlib.Core.Bool.{Bool, not, cond, _&&_, _||_}
+use mathlib.Core.Path.{_≡_}
+use mathlib.Core.List.{List, [], _∷_}
+use lib.Dec.{eqb, ltb, leb}
+use lib.ListN.{length, getD}
+use Rattle.semiautomata.specs.Semiautomaton.{Semiautomaton}
+use Rattle.semiautomata.specs.Calls.{Check, lowest}
+use Rattle.semiautomata.specs.Plan.{Line, Plan, semiautomaton, countOff, startOff, lineOff, lineTwice}
+use Rattle.plan.specs.declared.Header.{Header}
+use Rattle.plan.specs.declared.Reading.{Reading}
+use Rattle.plan.specs.declared.Reading.the-variants.{Counts, Refused}
+
+-- The little-endian 16-bit number at a place.
+abbrev pub number : List ℕ → ℕ → ℕ
+number plan at = getD plan at 0 + 256 * getD plan (at + 1) 0
+
+-- Eight of them, in order: edition, n, m, p, e, offset of starts, offset of lines, total length.
+abbrev pub headerOf : List ℕ → Header
+headerOf plan = record {
+  edition = number plan 0;
+  n = number plan 2;
+  m = number plan 4;
+  p = number plan 6;
+  e = number plan 8;
+  starts = number plan 10;
+  lines = number plan 12;
+  total = number plan 14;
+}
+
+-- A line has so many bytes: from, code, to.
+abbrev pub lineWidth : ℕ
+lineWidth = 3
+
+abbrev pub lineAt : List ℕ → ℕ → Line
+lineAt plan at = record { from = getD plan at 0; letter = getD plan (at + 1) 0; to = getD plan (at + 2) 0 }
+
+-- The plan that the bytes hold: a start is one byte, a line is lineWidth bytes.
+abbrev pub parsed : List ℕ → Plan
+parsed plan =
+    let h = headerOf plan in
+    record {
+      n = h .n;
+      m = h .m;
+      p = h .p;
+      e = h .e;
+      start = λ i. getD plan (h .starts + i) 0;
+      line = λ i. lineAt plan (h .lines + lineWidth * i);
+    }
+
+-- What plan bytes mean.
+abbrev pub meaning : List ℕ → Semiautomaton
+meaning plan = semiautomaton (parsed plan)
+
+-- A part of so many bytes begins at 16 or later and ends no later than the total; two non-empty parts don't overlap.
+abbrev pub placed : ℕ → ℕ → ℕ → Bool
+placed total at size = leb 16 at && leb (at + size) total
+
+abbrev pub overlap : ℕ → ℕ → ℕ → ℕ → Bool
+overlap at size at′ size′ = (ltb 0 size && ltb 0 size′) && (ltb at (at′ + size′) && ltb at′ (at + size))
+
+abbrev pub misplaced : Header → Bool
+misplaced h =
+    not (placed (h .total) (h .starts) (h .p)) || (not (placed (h .total) (h .lines) (lineWidth * h .e)) || overlap (h .starts) (h .p) (h .lines) (lineWidth * h .e))
+
+-- Refusals 1 to 7, in order.
+abbrev pub planChecks : List ℕ → List Check
+planChecks plan =
+    record { number = 1; applies = ltb (length plan) 16 || not (eqb (headerOf plan .total) (length plan)) }
+    ∷ record { number = 2; applies = not (eqb (headerOf plan .edition) 1) }
+    ∷ record { number = 3; applies = countOff (headerOf plan .n) (headerOf plan .m) (headerOf plan .p) (headerOf plan .e) }
+    ∷ record { number = 4; applies = misplaced (headerOf plan) }
+    ∷ record { number = 5; applies = startOff (parsed plan) }
+    ∷ record { number = 6; applies = lineOff (parsed plan) }
+    ∷ record { number = 7; applies = lineTwice (parsed plan) }
+    ∷ []
+
+-- The lowest that applies, 0 if none does; a plan is well formed if none applies.
+unfoldable pub refusal : List ℕ → ℕ
+refusal plan = lowest (planChecks plan)
+
+abbrev pub WellFormed : List ℕ → Type 0
+WellFormed plan = refusal plan ≡ 0
+
+-- What reading answers: n, m, p and e, or the refusal.
+abbrev pub counts : Header → Reading
+counts h = Counts (h .n) (h .m) (h .p) (h .e)
+
+abbrev pub reading : List ℕ → Reading
+reading plan = cond (eqb (refusal plan) 0) (counts (headerOf plan)) (Refused (refusal plan))

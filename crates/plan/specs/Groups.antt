@@ -1,0 +1,11 @@
+-- Who can cause which refusal (document 01): the plan's author 1 to 7 and 15, the caller 8 to 10 and 14, the logger 11 to 13.
+-- Assumes nothing.
+use Prim.Native.Nat.{ℕ}
+use mathlib.Core.Bool.{cond, _||_}
+use lib.Dec.{eqb}
+use Rattle.semiautomata.specs.Plan.{within}
+use Rattle.plan.specs.declared.group.Group.{Group}
+use Rattle.plan.specs.declared.group.Group.the-variants.{Author, Caller, Logger, Nobody}
+
+abbrev pub groupOf : ℕ → Group
+groupOf x = cond (within 1 7 x || eqb x 15) Author (cond (within 8 10 x || eqb x 14) Caller (cond (within 11 13 x) Logger Nobody))
