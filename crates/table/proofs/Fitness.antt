@@ -21,6 +21,7 @@ use Rattle.semiautomata.specs.Successors.{Fit}
 use Rattle.semiautomata.proofs.Successors.{fit-within}
 use Rattle.table.specs.Table.{statesOf, lettersOf, lookaheadOf, initialOf, setsFrom, setsOf, tableMeaning, unfit}
 
+-- what holds of a table to which refusal 8 does not apply
 pub record Fitting (table : List ℕ) : Type 0 where
   pub some-state : 1 ≤ statesOf table
   pub states : statesOf table ≤ 64

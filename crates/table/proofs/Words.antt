@@ -46,11 +46,6 @@ module _ (S : Semiautomaton) (X : ℕ → Bool) (w : List ℕ) (i : ℕ) (h : i 
   possible-back s g = rw (drop-cons w i 0 h, reach-next) (led (S .n) (reach S X (take i w) s) (step S (reach S X (take i w)) (getD w i 0)) (spells S (drop (suc i) w)) (S .edge s (getD w i 0))
       (λ r t e. any-in (S .n) (λ s. reach S X (take i w) s && S .edge s (getD w i 0) t) s g (and-in _ _ r e)))
 
--- after the last letter, what is reached is possible
-pub possible-last : (S : Semiautomaton) (X : ℕ → Bool) (w : List ℕ) (x : ℕ) → reach S X (take (length w) w) x ≡ possible S X w (length w) x
-unfolding possible spells
-possible-last S X w x = rw (drop-length w, and-true)
-
 -- the same over successor sets and numbers
 pub back-set : (n m : ℕ) (sets : List ℕ) (X : ℕ → Bool) (w : List ℕ) (i here next out : ℕ) → i < length w → getD w i 0 < m
     → here ≡ setOf n (reach (bare n m sets) X (take i w)) → next ≡ setOf n (possible (bare n m sets) X w (i + 1))
@@ -60,6 +55,11 @@ back-set n m sets X w i here next out h g e d o =
     o ∙ setOf-cong n _ _ (λ s k. rw (e, has-setOf, lt-ltb s n k, ← possible-back (bare n m sets) X w i h s k)
     (ap (λ (b : Bool). reach (bare n m sets) X (take i w) s && b)
     (any-cong n _ _ (λ t l. rw (d, has-setOf, lt-ltb t n l, add-one, edge-is n m 0 sets s (getD w i 0) t k g)))))
+
+-- after the last letter, what is reached is possible
+pub possible-last : (S : Semiautomaton) (X : ℕ → Bool) (w : List ℕ) (x : ℕ) → reach S X (take (length w) w) x ≡ possible S X w (length w) x
+unfolding possible spells
+possible-last S X w x = rw (drop-length w, and-true)
 
 -- A WORD FROM ONE STATE, whose set is `1 << s`
 

@@ -127,7 +127,7 @@ fn union_of(sets: &[u64]) -> u64
     all
 }
 
-// Refusal 8, of any numbers.
+// Refusal 8, of any numbers. The initial states stand just before the sets, and one test serves all of them.
 pub fn is_unfit(table: &[u64]) -> bool
     ensures { λ r. ⌜ r ≡ unfit (now (table .entry)) ⌝ }
 {

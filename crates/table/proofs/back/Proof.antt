@@ -48,7 +48,7 @@ mul-if1-2 : tie.Need-mul-if1-2 Inv-loop μ-loop
 mul-if1-2 c = omega (arith, room c)
 
 shared-slice-read-if1 : tie.Need-shared-slice-read-if1 Inv-loop μ-loop
-shared-slice-read-if1 c = room (c .before)
+shared-slice-read-if1 c = omega (arith, room (c .before))
 
 shl-out : tie.Need-shl-out Inv-loop μ-loop
 shl-out c = let t = c .before .before in omega (arith, small t, t .before .before .pre .0 .states)

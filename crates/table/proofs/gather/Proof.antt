@@ -44,7 +44,7 @@ mul-out-2 : tie.Need-mul-out-2 Inv-loop μ-loop
 mul-out-2 c = omega (arith, room c)
 
 shared-slice-read-out : tie.Need-shared-slice-read-out Inv-loop μ-loop
-shared-slice-read-out c = room (c .before)
+shared-slice-read-out c = omega (arith, room (c .before))
 
 sub-rest : tie.Need-sub-rest Inv-loop μ-loop
 sub-rest c = some (c .before)

@@ -45,7 +45,7 @@ union-of-requires : tie.Need-union-of-requires
 union-of-requires c κs = search needs
 
 cast-mask : tie.Need-cast-mask
-cast-mask c = omega (arith, ranged (c .before .before .before) .states)
+cast-mask c = omega (arith, ranged (c .before .before .before))
 
 mask-requires : tie.Need-mask-requires
 mask-requires c κs = search needs

@@ -1,0 +1,101 @@
+-- Record bytes follow the abstract record: a call on bytes that hold a record replies as the rule without bytes, and leaves bytes that hold
+-- the record that the rule leaves.
+-- Assumes nothing.
+use Prim.Native.Nat.{ℕ, _+_, _-_, _*_, _/_, _^_, _≤_, _<_}
+use mathlib.Core.Bool.{Bool, true, false, not}
+use mathlib.Core.Path.{_≡_, refl, sym, _∙_, ap}
+use mathlib.Core.List.{List, [], _∷_, _++_, map}
+use native.Mathlib.Omega.{arith}
+use lib.ListN.{length, drop, length-append, length-drop}
+use borrow.Author.Tests.{le-ltb}
+use Rattle.semiautomata.specs.Semiautomaton.{Semiautomaton, Within}
+use Rattle.semiautomata.specs.Predictability.{Predictable}
+use Rattle.semiautomata.specs.Calls.{Reply, refused, resolved, nothing, Result, replies}
+use Rattle.semiautomata.specs.PlainWalk.{limit, plainFeed}
+use Rattle.semiautomata.specs.Streaming.{Rec, settle, after, settled, opened, feed, feedChecks, base}
+use Rattle.semiautomata.proofs.Calls.{Outcome, refuses, passes, outcome}
+use Rattle.semiautomata.proofs.Streaming.{Follows, feed-agrees}
+use Rattle.table.specs.Table.{lookaheadOf, tableMeaning, unfit}
+use Rattle.predictor.specs.declared.Answer.{Answer}
+use Rattle.predictor.specs.Bytes.{heldFrom, decode, tidy, encode}
+use Rattle.predictor.specs.Replies.{said}
+use Rattle.predictor.specs.Calls.{written, onto, openedOn, fedOn}
+use Rattle.predictor.proofs.Bytes.{decode-encode, tidy-encode, length-encode}
+use Rattle.demand.specs.Demand.{Feeds, Feeding, none, more}
+
+-- the bytes hold the record r for k
+pub record Holds (k : ℕ) (bytes : List ℕ) (r : Rec) : Type 0 where
+  pub room : heldFrom + k ≤ length bytes
+  pub tidied : tidy k bytes ≡ true
+  pub is : decode bytes ≡ r
+
+-- a record that the bytes have room for
+pub record Small (k : ℕ) (r : Rec) : Type 0 where
+  pub fed-lt : r .fed < 2 ^ 32
+  pub held-le : length (r .held) ≤ k
+  pub few : k < 2 ^ 16
+
+pub encode-holds : (k : ℕ) (r : Rec) (bytes : List ℕ) → heldFrom + k ≤ length bytes → Small k r → Holds k (encode k r ++ drop (heldFrom + k) bytes) r
+encode-holds k r bytes h s =
+    let few : length (r .held) < 2 ^ 16 = omega (arith, s .held-le, s .few) in
+    record {
+      room = rw (length-append, length-encode k r (s .held-le)) (omega arith);
+      tidied = tidy-encode k r (drop (heldFrom + k) bytes) few (s .held-le);
+      is = decode-encode k r (drop (heldFrom + k) bytes) few (s .fed-lt);
+    }
+
+-- what is written of a reply holds the record that is left, where a refusal leaves the record as it was
+pub written-holds : (k : ℕ) (bytes : List ℕ) (r next : Rec) (reply : Reply) → Holds k bytes r → Small k next → ((x : ℕ) → reply ≡ refused x → next ≡ r) → Holds k (written k bytes next reply) next
+written-holds k bytes r next (refused x) h s keeps = rw (keeps x refl) h
+written-holds k bytes r next (resolved i x) h s keeps = encode-holds k next bytes (h .room) s
+written-holds k bytes r next nothing h s keeps = encode-holds k next bytes (h .room) s
+
+-- a refused letter leaves the record
+pub feed-keeps : (S : Semiautomaton) (k : ℕ) (r : Rec) (a x : ℕ) → feed S k r a .reply ≡ refused x → feed S k r a .state ≡ r
+unfolding feed
+feed-keeps S k r a x = go (feed S k r a) (outcome (feedChecks S k r a) r done)
+  where
+    done : Result Rec
+    done = settled S k (base S k r) r (Prim.Native.Nat.suc (r .fed)) (r .held ++ (a ∷ []))
+
+    go : (s : Result Rec) → Outcome (feedChecks S k r a) r done s → s .reply ≡ refused x → s .state ≡ r
+    go s (refuses number _) e = refl
+    go s (passes _) e = rw e
+
+module _ (table : List ℕ) (fit : unfit table ≡ false) where
+  abbrev S : Semiautomaton
+  S = tableMeaning table
+
+  abbrev k : ℕ
+  k = lookaheadOf table
+
+  -- where neither 8 nor 9 applies, and the bytes hold a record
+  pub opened-is : (bytes : List ℕ) → heldFrom + k ≤ length bytes → openedOn table bytes ≡ onto k bytes (opened S k)
+  unfolding openedOn
+  opened-is bytes h = rw (fit, le-ltb (length bytes) (heldFrom + k) h)
+
+  pub fed-is : (bytes : List ℕ) (r : Rec) (a : ℕ) → Holds k bytes r → fedOn table bytes a ≡ onto k bytes (feed S k r a)
+  unfolding fedOn
+  fed-is bytes r a h = rw (fit, le-ltb (length bytes) (heldFrom + k) (h .room), h .tidied, h .is)
+
+  module _ (W : Within S) (P : Predictable S k) (few : k < 2 ^ 16) where
+    pub follows-small : (r : Rec) (w : List ℕ) → Follows S W k P r w → Small k r
+    unfolding limit
+    follows-small r w f = record {
+      fed-lt = omega (arith, f .fed-are, f .room);
+      held-le = rw (f .held-are, length-drop) (omega arith);
+      few = few;
+    }
+
+    -- a list of calls replies as the rule without bytes
+    pub feeding-replies : {bytes offered : List ℕ} {answers : List Answer} → Feeding table bytes offered answers → (r : Rec) (w : List ℕ) → Holds k bytes r → Follows S W k P r w
+        → map said answers ≡ replies (feed S k) r offered
+    feeding-replies none r w h f = refl
+    feeding-replies (more {bytes} {left} {letter} {answer} {letters} {answers} c rest) r w h f =
+        let is = fed-is bytes r letter h in
+        let t = feed S k r letter in
+        let agree = feed-agrees S W k P r w letter f in
+        let reply : said answer ≡ t .reply = c .reply ∙ ap (λ (x : Result (List ℕ)). x .reply) is in
+        let state : left ≡ written k bytes (t .state) (t .reply) = c .state ∙ ap (λ (x : Result (List ℕ)). x .state) is in
+        let next : Holds k left (t .state) = rw state (written-holds k bytes r (t .state) (t .reply) h (follows-small (t .state) (plainFeed S k w letter .state) (agree .state)) (feed-keeps S k r letter)) in
+        rw (reply, feeding-replies rest (t .state) (plainFeed S k w letter .state) next (agree .state))

@@ -1,0 +1,121 @@
+-- The theorems of specs/Demand.antt.
+-- Assumes nothing.
+use Prim.Native.Nat.{ℕ, suc, _+_, _-_, _*_, _/_, _^_, _≤_, _<_}
+use mathlib.Core.Bool.{Bool, true, false, not}
+use mathlib.Core.Path.{_≡_, refl, sym, _∙_, ap}
+use mathlib.Core.Logic.{inl, inr}
+use mathlib.Core.List.{List, [], _∷_, _++_, map}
+use native.Mathlib.Omega.{arith}
+use native.Mathlib.Nat.{mul-le-mul-left, mul-le-mul-right}
+use lib.ListN.{length, drop}
+use Rattle.semiautomata.specs.Semiautomaton.{Semiautomaton, Within}
+use Rattle.semiautomata.specs.Predictability.{Predictable, Lookahead}
+use Rattle.semiautomata.specs.Calls.{Reply, refused, resolved, nothing, Result, Check, checked}
+use Rattle.semiautomata.specs.Demand3.{Demand3}
+use Rattle.semiautomata.specs.Streaming.{Rec, opened, feed, streamed}
+use Rattle.semiautomata.proofs.Calls.{Among, Outcome, refuses, passes, outcome}
+use Rattle.semiautomata.proofs.Streaming.{Follows, opened-none, opened-some, opened-agrees, never-14}
+use Rattle.semiautomata.proofs.Demand3 as demand
+use Rattle.plan.specs.Bytes.{meaning}
+use Rattle.table.specs.Table.{statesOf, lookaheadOf, tableMeaning, unfit}
+use Rattle.table.proofs.Fitness.{Fitting, fitting}
+use Rattle.predictor.specs.declared.Answer.{Answer}
+use Rattle.predictor.specs.Bytes.{heldFrom, decode, encode}
+use Rattle.predictor.specs.Replies.{said}
+use Rattle.predictor.specs.Calls.{written, onto, openedOn, fedOn, tableCheck, recordCheck, tidyCheck}
+use Rattle.demand.specs.Demand.{Made, Opens, Feeds, Feeding, Walk, Theorems}
+use Rattle.demand.proofs.Records.{Holds, Small, encode-holds, follows-small, opened-is, feeding-replies}
+
+-- a table that fits has a look-ahead that two bytes can count
+few : (table : List ℕ) → Fitting table → lookaheadOf table < 2 ^ 16
+few table f =
+    let n = statesOf table in
+    omega (arith, f .lookahead, mul-le-mul-left n (less n), mul-le-mul-right n (f .states))
+  where
+    less : (n : ℕ) → n - 1 ≤ n
+    less n = omega arith
+
+-- OVER THE TABLE ALONE
+module _ (table : List ℕ) (fit : unfit table ≡ false) (P : Predictable (tableMeaning table) (lookaheadOf table)) where
+  W : Within (tableMeaning table)
+  W = fitting table fit .within
+
+  on-never-14 : (bytes : List ℕ) (a : ℕ) → ¬ (fedOn table bytes a .reply ≡ refused 14)
+  unfolding fedOn
+  on-never-14 bytes a = go (fedOn table bytes a) (outcome checks bytes done)
+    where
+      checks : List Check
+      checks = tableCheck table ∷ recordCheck table bytes ∷ tidyCheck table bytes ∷ []
+
+      done : Result (List ℕ)
+      done = onto (lookaheadOf table) bytes (feed (tableMeaning table) (lookaheadOf table) (decode bytes) a)
+
+      other : (number : ℕ) → number ≡ 14 → ¬ Among number checks
+      other number e (inl x) = omega arith
+      other number e (inr (inl x)) = omega arith
+      other number e (inr (inr (inl x))) = omega arith
+      other number e (inr (inr (inr x))) = x
+
+      go : (s : Result (List ℕ)) → Outcome checks bytes done s → ¬ (s .reply ≡ refused 14)
+      go s (refuses number among) e = other number (cc) among
+      go s (passes _) e = never-14 (tableMeaning table) W (lookaheadOf table) P (decode bytes) a e
+
+  module _ (s : ℕ) (e : tableMeaning table .initial s ≡ true) where
+    -- opening leaves bytes that hold the record of no letters
+    opened-holds : (bytes : List ℕ) → heldFrom + lookaheadOf table ≤ length bytes → Holds (lookaheadOf table) (openedOn table bytes .state) (opened (tableMeaning table) (lookaheadOf table) .state)
+    opened-holds bytes h = rw (opened-is table fit bytes h) (go (opened S k .reply) refl)
+      where
+        S : Semiautomaton
+        S = tableMeaning table
+
+        k : ℕ
+        k = lookaheadOf table
+
+        small : Small k (opened S k .state)
+        small = follows-small table fit W P (few table (fitting table fit)) (opened S k .state) [] (opened-agrees S W k P s e .state)
+
+        go : (reply : Reply) → opened S k .reply ≡ reply → Holds k (written k bytes (opened S k .state) reply) (opened S k .state)
+        go (refused r) q = absurd (opened-some S W k P s e r q)
+        go (resolved i x) q = encode-holds k (opened S k .state) bytes h small
+        go nothing q = encode-holds k (opened S k .state) bytes h small
+
+    walk-streamed : (offered : List ℕ) (first : Answer) (answers : List Answer) → Walk table (lookaheadOf table) offered first answers
+        → map said (first ∷ answers) ≡ streamed (tableMeaning table) (lookaheadOf table) offered
+    walk-streamed offered first answers w =
+        let S = tableMeaning table in
+        let k = lookaheadOf table in
+        let h = w .room in
+        let reply : said first ≡ opened S k .reply = w .opening .reply ∙ ap (λ (x : Result (List ℕ)). x .reply) (opened-is table fit (w .bytes) h) in
+        let holds : Holds k (w .left) (opened S k .state) = rw (w .opening .state) (opened-holds (w .bytes) h) in
+        rw (reply, feeding-replies table fit W P (few table (fitting table fit)) (w .feeding) (opened S k .state) [] holds (opened-agrees S W k P s e .state))
+
+    on-demand3 : Lookahead (tableMeaning table) (lookaheadOf table) → (offered : List ℕ) (first : Answer) (answers : List Answer) → Walk table (lookaheadOf table) offered first answers
+        → Demand3 (tableMeaning table) (lookaheadOf table) offered (map said (first ∷ answers))
+    on-demand3 l offered first answers w =
+        rw (walk-streamed offered first answers w) (demand.demand3 (tableMeaning table) W (lookaheadOf table) P s e offered)
+
+-- OF THE PLAN THAT THE TABLE WAS MADE FROM
+pub theorems : (plan : List ℕ) (k : ℕ) (table : List ℕ) (made : Made plan k table) → Theorems plan k table made
+theorems plan k table made =
+    let (_, l, t, _) = made .prepared in
+    let fit = t .fit in
+    let S = tableMeaning table in
+    let K = lookaheadOf table in
+    let here : Lookahead S K = rw (t .means, t .k-is) l in
+    let P = here .enough in
+    let same : (s : ℕ) → S .initial s ≡ meaning plan .initial s = λ s. ap (λ (T : Semiautomaton). T .initial s) (t .means) in
+    record {
+      opening-refused = λ bytes a left h o no.
+          let h : heldFrom + K ≤ length bytes = rw (t .k-is) h in
+          let no : (s : ℕ) → S .initial s ≡ false = λ s. same s ∙ no s in
+          o .reply ∙ ap (λ (x : Result (List ℕ)). x .reply) (opened-is table fit bytes h) ∙ opened-none S K no;
+      opening-taken = λ bytes a left h o s e r q.
+          let h : heldFrom + K ≤ length bytes = rw (t .k-is) h in
+          let e : S .initial s ≡ true = same s ∙ e in
+          opened-some S (W table fit P) K P s e r (sym (o .reply ∙ ap (λ (x : Result (List ℕ)). x .reply) (opened-is table fit bytes h)) ∙ q);
+      never-14 = λ bytes letter a left f q. on-never-14 table fit P bytes letter (sym (f .reply) ∙ q);
+      demand3 = λ s e offered first answers w.
+          let e : S .initial s ≡ true = same s ∙ e in
+          let w : Walk table K offered first answers = rw (t .k-is) w in
+          rw (t .means, t .k-is) at (on-demand3 table fit P s e here offered first answers w);
+    }

@@ -1,0 +1,59 @@
+-- Demand 3 (the user's term 3; document 01, Walks), of any calls that keep their promises, lent a table for which preparing's promise held.
+-- Assumes nothing.
+use Prim.Native.Nat.{ℕ, _+_, _≤_}
+use mathlib.Core.Bool.{true, false}
+use mathlib.Core.Path.{_≡_}
+use mathlib.Core.List.{List, [], _∷_, map}
+use lib.ListN.{length}
+use Rattle.semiautomata.specs.Calls.{Reply, refused}
+use Rattle.semiautomata.specs.Demand3.{Demand3}
+use Rattle.plan.specs.Bytes.{meaning}
+use Rattle.prepare.specs.declared.Prepared.the-variants.{Ready}
+use Rattle.prepare.specs.Preparing.{Prepares}
+use Rattle.predictor.specs.declared.Answer.{Answer}
+use Rattle.predictor.specs.Bytes.{heldFrom}
+use Rattle.predictor.specs.Replies.{said}
+use Rattle.predictor.specs.Calls.{openedOn, fedOn}
+
+-- Preparing made the table from the plan and answered k: its promise held of what it was lent and what it left.
+pub record Made (plan : List ℕ) (k : ℕ) (table : List ℕ) : Type 0 where
+  pub old : List ℕ
+  pub old-letters : List ℕ
+  pub letters : List ℕ
+  pub prepared : Prepares plan (Ready k) old table old-letters letters
+
+-- A call of opening, and of a letter fed, that keeps its promise: lent the table and bytes, it answers so and leaves those bytes.
+pub record Opens (table bytes : List ℕ) (answer : Answer) (left : List ℕ) : Type 0 where
+  pub reply : said answer ≡ openedOn table bytes .reply
+  pub state : left ≡ openedOn table bytes .state
+
+pub record Feeds (table bytes : List ℕ) (letter : ℕ) (answer : Answer) (left : List ℕ) : Type 0 where
+  pub reply : said answer ≡ fedOn table bytes letter .reply
+  pub state : left ≡ fedOn table bytes letter .state
+
+-- Letters offered one after the other, and the answers: each call is lent the table unchanged, and the bytes that the call before, taken
+-- or refused, left.
+pub data Feeding (table : List ℕ) : List ℕ → List ℕ → List Answer → Type 0 where
+  none : {bytes : List ℕ} → Feeding table bytes [] []
+  more : {bytes left : List ℕ} {letter : ℕ} {answer : Answer} {letters : List ℕ} {answers : List Answer}
+      → Feeds table bytes letter answer left → Feeding table left letters answers → Feeding table bytes (letter ∷ letters) (answer ∷ answers)
+
+-- The same from opening on, in bytes of any content, at least 8 + k of them.
+pub record Walk (table : List ℕ) (k : ℕ) (offered : List ℕ) (first : Answer) (answers : List Answer) : Type 0 where
+  pub bytes : List ℕ
+  pub room : heldFrom + k ≤ length bytes
+  pub left : List ℕ
+  pub opening : Opens table bytes first left
+  pub feeding : Feeding table left offered answers
+
+pub record Theorems (plan : List ℕ) (k : ℕ) (table : List ℕ) (made : Made plan k table) : Type 0 where
+  -- opening with 8 + k bytes or more is refused exactly if there are no starts, and then with 13
+  pub opening-refused : (bytes : List ℕ) (a : Answer) (left : List ℕ) → heldFrom + k ≤ length bytes → Opens table bytes a left
+      → ((s : ℕ) → meaning plan .initial s ≡ false) → said a ≡ refused 13
+  pub opening-taken : (bytes : List ℕ) (a : Answer) (left : List ℕ) → heldFrom + k ≤ length bytes → Opens table bytes a left
+      → (s : ℕ) → meaning plan .initial s ≡ true → (r : ℕ) → ¬ (said a ≡ refused r)
+  -- 14 is met on no record at all, whatever its bytes are
+  pub never-14 : (bytes : List ℕ) (letter : ℕ) (a : Answer) (left : List ℕ) → Feeds table bytes letter a left → ¬ (said a ≡ refused 14)
+  -- demand 3, of every list of letters offered to a freshly opened walk
+  pub demand3 : (s : ℕ) → meaning plan .initial s ≡ true → (offered : List ℕ) (first : Answer) (answers : List Answer) → Walk table k offered first answers
+      → Demand3 (meaning plan) k offered (map said (first ∷ answers))

@@ -1,0 +1,27 @@
+-- The search for a letter that leads two states on to a pair of the rows.
+-- Assumes nothing.
+use mathlib.Core.Bool.{true, false}
+use mathlib.Core.Path.{_≡_, sym, _∙_}
+use mathlib.Core.List.{List}
+use Prim.Native.Nat.{ℕ, _<_}
+use Rattle.bitset.specs.Sets.{has}
+use Rattle.bitset.proofs.Tests.{and-in}
+use Rattle.bitset.proofs.Below.{any-in, any-none}
+use Rattle.semiautomata.proofs.Successors.{edge-is}
+use Rattle.lookahead.specs.Rows.{after, pair}
+use Rattle.lookahead.specs.Rounds.{leadsBy, leads, Leads}
+
+module _ (n m : ℕ) (sets rows : List ℕ) (s t : ℕ) where
+  -- it has come to such a letter
+  pub leads-hit : {a r u : ℕ} → s < n → t < n → a < m → r < n → u < n → has (after m sets s a) r ≡ true → has (after m sets t a) u ≡ true → pair rows r u ≡ true
+      → (true ≡ leads n m sets rows s t) × (true ≡ true → Leads n m sets rows s t a r u)
+  unfolding leads
+  leads-hit {a} {r} {u} hs ht ha hr hu p q e = (
+    sym (any-in m _ a ha (any-in n _ r hr (and-in _ _ p (any-in n _ u hu (and-in _ _ q e))))),
+    λ _. record { first = edge-is n m 0 sets s a r hs ha ∙ p; second = edge-is n m 0 sets t a u ht ha ∙ q; lives = e },
+  )
+
+  -- it has passed every letter
+  pub leads-none : ((a : ℕ) → a < m → leadsBy n m sets rows s t a ≡ false) → leads n m sets rows s t ≡ false
+  unfolding leads
+  leads-none f = any-none m _ f

@@ -1,0 +1,4 @@
+pub mod Rows
+pub mod Rivals
+pub mod Rounds
+pub mod Answers

@@ -1,0 +1,40 @@
+-- Rows of pairs of states: bit t of row s is the pair s and t.
+-- Assumes nothing.
+use Prim.Native.Nat.{ℕ, _^_, _<_}
+use mathlib.Core.Bool.{Bool, true, _&&_, _||_}
+use mathlib.Core.Path.{_≡_}
+use mathlib.Core.List.{List}
+use lib.ListN.{length, getD}
+use Rattle.bitset.specs.Sets.{any, has, setOf}
+use Rattle.semiautomata.specs.Successors.{place}
+
+-- the states that letter a leads to from q
+abbrev pub after : ℕ → List ℕ → ℕ → ℕ → ℕ
+after m sets q a = getD sets (place m q a) 0
+
+-- the pair s and t is in the rows
+abbrev pub pair : List ℕ → ℕ → ℕ → Bool
+pair rows s t = has (getD rows s 0) t
+
+-- no row has a state n or higher
+abbrev pub Fits : ℕ → List ℕ → Type 0
+Fits n rows = (s : ℕ) → s < n → getD rows s 0 < 2 ^ n
+
+-- each of the firsts is paired with each of the seconds, and no other pair is new
+pub record Put (firsts seconds : ℕ) (old new : List ℕ) : Type 0 where
+  pub long : length new ≡ length old
+  pub is : (s t : ℕ) → pair new s t ≡ (pair old s t || has firsts s && has seconds t)
+
+-- so often: the sets F i with the sets G i, for i below k
+pub record Paired (old new : List ℕ) (F G : ℕ → ℕ) (k : ℕ) : Type 0 where
+  pub long : length new ≡ length old
+  pub is : (s t : ℕ) → pair new s t ≡ (pair old s t || any k (λ i. has (F i) s && has (G i) t))
+
+-- no pair is lost
+pub record Grown (old new : List ℕ) : Type 0 where
+  pub long : length new ≡ length old
+  pub keeps : (s t : ℕ) → pair old s t ≡ true → pair new s t ≡ true
+
+-- the table turned round: at each state and letter the states that the letter leads there
+pub record Turned (n m : ℕ) (sets back : List ℕ) : Type 0 where
+  pub is : (r a : ℕ) → r < n → a < m → after m back r a ≡ setOf n (λ s. has (after m sets s a) r)

@@ -1,0 +1,40 @@
+// The look-ahead of a semiautomaton by its successor sets, or the witness that there is none; never from plan bytes.
+// Level by level, pairs of states that share no longer word are struck from a list of work; the first level without live rivals is the
+// look-ahead, and a round that strikes nothing means that what is live then lives for ever.
+mod rows; // rows.rt: rows of pairs of states
+mod levels; // levels.rt: the levels of live pairs, round by round
+mod witness; // witness.rt: the critical set and the lasso of two states that share words of every length
+
+ghost use Prim.Native.Nat.{_*_, _^_, _≤_, _<_};
+ghost use lib.ListN.{length};
+ghost use Rattle.semiautomata.specs.Successors.{successors, Fit};
+ghost use Rattle.lookahead.specs.Answers.{Answers};
+
+// The evidence that there is no look-ahead: the critical set by a state and a letter (255 and 0 for the initial states), two states of
+// it, the lower first, and how many letters lead in and how many go round.
+pub struct Evidence {
+    pub state: usize,
+    pub letter: usize,
+    pub low: usize,
+    pub high: usize,
+    pub stem: usize,
+    pub cycle: usize,
+}
+
+pub enum Answer {
+    Lookahead(usize),
+    Never(Evidence),
+}
+
+// The look-ahead, or the evidence that there is none, with its letters from the buffer's front.
+pub fn look_ahead(sets: &[u64], n: usize, m: usize, starts: u64, letters: &mut [u8]) -> Answer
+    requires { ⌜ Fit n m (now sets) × (starts < 2 ^ n) × (n * n ≤ length (now letters)) ⌝ }
+    ensures { λ r. ⌜ Answers (successors n m starts (now (sets .entry))) r (now (letters .entry)) (now (letters .exit)) ⌝ }
+{
+    let found = levels::settle(sets, n, m, starts);
+    if !found.stable {
+        return Answer::Lookahead(found.rounds);
+    }
+    let live = found.live;
+    Answer::Never(witness::evidence(sets, n, m, starts, &live, found.low, found.high, letters))
+}

@@ -1,0 +1,91 @@
+-- Ending: its refusals, and the sets that it writes.
+-- Assumes nothing.
+use Prim.Native.Nat.{ℕ, zero, suc, _+_, _-_, _≤_, _<_, min}
+use mathlib.Core.Bool.{Bool, true, false, not, _&&_, _||_}
+use mathlib.Core.Path.{_≡_, refl, _∙_, ap}
+use mathlib.Core.List.{List, map}
+use native.Mathlib.Omega.{arith}
+use lib.ListN.{length, getD, take, drop, length-take, length-drop}
+use lib.Dec.{ltb}
+use lib.Seq.{drop-cons}
+use borrow.Author.Tests.{le-leb, lt-leb}
+use Rattle.bitset.specs.Sets.{has, setOf}
+use Rattle.semiautomata.specs.Semiautomaton.{Semiautomaton}
+use Rattle.semiautomata.specs.Walks.{possible}
+use Rattle.semiautomata.specs.Demand3.{followed, range, collect}
+use Rattle.semiautomata.specs.Streaming.{base, sound, unresolved}
+use Rattle.table.specs.Table.{lookaheadOf, tableMeaning, unfit}
+use Rattle.table.specs.Walking.{Written}
+use Rattle.table.proofs.Fitness.{Fitting, fitting-fit}
+use Rattle.predictor.specs.Bytes.{heldFrom, heldCount, decode, tidy}
+use Rattle.predictor.specs.Calls.{endRefusal}
+use Rattle.predictor.specs.Parts.{openSets}
+use Rattle.predictor.proofs.Standing.{Standing}
+
+-- THE POSITIONS THAT ARE NOT RESOLVED are the last ones
+
+module _ {A : Type 0} (q : ℕ → Bool) (f : ℕ → A) where
+  collect-none : (p c d : ℕ) → ((i : ℕ) → p ≤ i → i < p + c → q i ≡ false) → collect q f (range p (c + d)) ≡ collect q f (range (p + c) d)
+  collect-none p zero d h = let e : zero + d ≡ d = omega arith in let g : p + zero ≡ p = omega arith in rw (e, g)
+  collect-none p (suc c) d h =
+      let e : suc c + d ≡ suc (c + d) = omega arith in
+      let g : p + suc c ≡ suc p + c = omega arith in
+      rw (e, g, h p (omega arith) (omega arith)) (collect-none (suc p) c d (λ i a b. h i (omega arith) (omega arith)))
+
+  -- the sets of a list from place p on are those of the numbers collected
+  collect-list : (g : A → ℕ) (p c : ℕ) (l : List ℕ) → ((i : ℕ) → p ≤ i → i < p + c → (q i ≡ true) × (getD l i 0 ≡ g (f i))) → p + c ≤ length l
+      → map g (collect q f (range p c)) ≡ take c (drop p l)
+  collect-list g p zero l h r = refl
+  collect-list g p (suc c) l h r =
+      let (a, b) = h p (omega arith) (omega arith) in
+      rw (a, drop-cons l p 0 (omega arith), b, collect-list g (suc p) c l (λ i x y. h i (omega arith) (omega arith)) (omega arith))
+
+pub open-list : (S : Semiautomaton) (k : ℕ) (X : ℕ → Bool) (w : List ℕ) (l : List ℕ) → length w ≤ k → suc (length w) ≤ length l
+    → ((i : ℕ) → i ≤ length w → getD l i 0 ≡ setOf (S .n) (possible S X w i)) → (count from : ℕ) → count ≡ min (suc (length w)) k → from ≡ suc (length w) - count
+    → map (setOf (S .n)) (unresolved S k X w) ≡ take count (drop from l)
+unfolding unresolved followed
+open-list S k X w l h r at count from e d =
+    let all : suc (length w) ≡ from + count = omega arith in
+    ap (λ (c : ℕ). map (setOf (S .n)) (collect (λ i. not (followed k w i)) (possible S X w) (range 0 c))) all
+    ∙ ap (map (setOf (S .n))) (collect-none (λ i. not (followed k w i)) (possible S X w) 0 from count (λ i _ g. rw (followed, le-leb (i + k) (length w) (omega arith))))
+    ∙ (let z : 0 + from ≡ from = omega arith in rw z (collect-list (λ i. not (followed k w i)) (possible S X w) (setOf (S .n)) from count l
+    (λ i a b. (rw (followed, lt-leb (i + k) (length w) (omega arith)), at i (omega arith))) (omega arith)))
+
+-- the same of a sound record, whose possible states are traced into a buffer
+module _ (S : Semiautomaton) (k : ℕ) (bytes : List ℕ) {here : ℕ} (s : Standing S k bytes here) (from : ℕ) (is : has from ≡ base S k (decode bytes)) {part old all : List ℕ}
+    (held : part ≡ decode bytes .held) (o : Written (S .n) part (possible S (has from) part) old all) (h count : ℕ) (eh : h ≡ heldCount bytes) (room : suc h ≤ length all)
+    (e : count ≡ min (h + 1) k) where
+  pub open-sets : openSets S k bytes ≡ take count (drop (h + 1 - count) all)
+  unfolding openSets
+  open-sets =
+      let l : length part ≡ heldCount bytes = ap length held ∙ s .long in
+      rw (← is, ← held)
+      (open-list S k (has from) part all (omega (arith, s .keeps .held-is)) (omega arith) (λ i g. o .sets i g) count (h + 1 - count) (omega arith) (omega arith))
+
+  pub open-count : length (openSets S k bytes) ≡ count
+  open-count = rw (open-sets, length-take, length-drop) (omega arith)
+
+-- REFUSALS
+
+module _ (table bytes : List ℕ) (sets : ℕ) where
+  pub end-8 : unfit table ≡ true → 8 ≡ endRefusal table bytes sets
+  unfolding endRefusal
+  end-8 e = rw e
+
+  module _ (f : Fitting table) where
+    pub end-9 : (ltb (length bytes) (heldFrom + lookaheadOf table) || ltb sets (lookaheadOf table)) ≡ true → 9 ≡ endRefusal table bytes sets
+    unfolding endRefusal
+    end-9 e = rw (fitting-fit f, e)
+
+    module _ (e : (ltb (length bytes) (heldFrom + lookaheadOf table) || ltb sets (lookaheadOf table)) ≡ false) where
+      pub end-10 : (tidy (lookaheadOf table) bytes && sound (tableMeaning table) (lookaheadOf table) (decode bytes)) ≡ false → 10 ≡ endRefusal table bytes sets
+      unfolding endRefusal
+      end-10 d = go (tidy (lookaheadOf table) bytes) refl d
+        where
+          go : (t : Bool) → tidy (lookaheadOf table) bytes ≡ t → (t && sound (tableMeaning table) (lookaheadOf table) (decode bytes)) ≡ false → 10 ≡ endRefusal table bytes sets
+          go false t d = rw (endRefusal, fitting-fit f, e, t)
+          go true t d = rw (endRefusal, fitting-fit f, e, t, d)
+
+      pub end-0 : tidy (lookaheadOf table) bytes ≡ true → sound (tableMeaning table) (lookaheadOf table) (decode bytes) ≡ true → endRefusal table bytes sets ≡ 0
+      unfolding endRefusal
+      end-0 t s = rw (fitting-fit f, e, t, s)

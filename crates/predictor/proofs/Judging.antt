@@ -1,0 +1,220 @@
+-- The answer to a letter and to opening, test by test, and what it leaves of the bytes.
+-- Assumes nothing.
+use Prim.Native.Nat.{ℕ, suc, _+_, _-_, _≤_, _<_}
+use mathlib.Core.Bool.{Bool, true, false, not, cond, _&&_, true≢false, false≢true, and-true}
+use mathlib.Core.Path.{_≡_, refl, sym, _∙_, ap}
+use mathlib.Core.Logic.{_⊎_, inl, inr}
+use mathlib.Core.List.{List, [], _∷_, _++_}
+use native.Mathlib.Numerals.{add-one}
+use native.Mathlib.Omega.{arith}
+use lib.Dec.{eqb, ltb, leb}
+use lib.ListN.{length, take, drop}
+use borrow.Author.Tests.{lt-ltb, le-ltb, le-leb, lt-leb, eqb-true, eqb-false, leb-false, ltb-true, ltb-false}
+use Rattle.bitset.specs.Sets.{any, size, has, setOf}
+use Rattle.bitset.proofs.Tests.{and-out, decided}
+use Rattle.bitset.proofs.Below.{any-out, any-none, size-cong, Sole, size-sole, least-sole}
+use Rattle.bitset.proofs.Bits.{has-empty, has-high, fits, some-member, setOf-lt, setOf-has, has-setOf, setOf-cong}
+use Rattle.bitset.proofs.Members.{ones-size}
+use Rattle.semiautomata.specs.Semiautomaton.{Semiautomaton}
+use Rattle.semiautomata.specs.Walks.{spells, step, reach, survivors, walkable, possible}
+use Rattle.semiautomata.specs.Calls.{Reply, refused, resolved, nothing, Check, checked}
+use Rattle.semiautomata.specs.PlainWalk.{limit}
+use Rattle.semiautomata.specs.Streaming.{Rec, base, sound, latest, soleAt, resolve, settle, after, unopened, opened, feed, feedChecks}
+use Rattle.semiautomata.proofs.Computed.{reach-append, walkable-reach}
+use Rattle.semiautomata.proofs.Streaming.{length-snoc}
+use Rattle.table.specs.Walking.{Letters}
+use Rattle.table.proofs.Steps.{step-members}
+use Rattle.predictor.specs.Bytes.{heldFrom, decode, tidy, encode}
+use Rattle.predictor.specs.Calls.{written, onto}
+use Rattle.predictor.specs.Parts.{resolving, opening, judged, isRefusal, lastAfter, takenInto, fedInto, openedInto, Ready}
+use Rattle.predictor.proofs.Letters.{reach-letters}
+use Rattle.predictor.proofs.Standing.{some-of, none-of, By, base-below, Standing}
+
+-- THE POSITION THAT IS DUE
+
+-- the members of what is reached by the first letters from which the others can be walked
+pub due-set : (S : Semiautomaton) (X : ℕ → Bool) (w : List ℕ) (i : ℕ) {here out : ℕ} → here ≡ setOf (S .n) (reach S X (take i w))
+    → out ≡ setOf (S .n) (survivors S (has here) (drop i w)) → out ≡ setOf (S .n) (possible S X w i)
+unfolding possible
+due-set S X w i e d = d ∙ setOf-cong (S .n) _ _ (λ t g. rw (e, has-setOf, lt-ltb t (S .n) g))
+
+-- one member of a set below n, among 64
+sole-wide : (n : ℕ) (p : ℕ → Bool) → n ≤ 64 → (x : ℕ) → Sole n p x → Sole 64 (has (setOf n p)) x
+sole-wide n p h x s = record {
+  below = omega (arith, s .below);
+  member = rw (has-setOf, lt-ltb x n (s .below)) (s .member);
+  only = λ y g e. let (a, b) = and-out (ltb y n) (p y) (rw has-setOf at e) in s .only y (ltb-true y n a) b;
+}
+
+size-wide : (n : ℕ) (p : ℕ → Bool) → n ≤ 64 → size 64 (has (setOf n p)) ≡ size n p
+size-wide n p h =
+    sym (ones-size 64 (setOf n p) (fits 64 (setOf n p) (λ t g. has-high n (setOf n p) t (setOf-lt n p) (omega arith))))
+    ∙ ones-size n (setOf n p) (setOf-lt n p) ∙ size-cong n _ _ (λ t g. rw (has-setOf, lt-ltb t n g))
+
+pub resolving-is : (S : Semiautomaton) → S .n ≤ 64 → (X : ℕ → Bool) (w : List ℕ) (i position : ℕ) {set : ℕ} → set ≡ setOf (S .n) (possible S X w i)
+    → resolving position set ≡ resolve position (soleAt S X w i)
+unfolding resolving soleAt
+resolving-is S small X w i position {set} e = go (decided (eqb (size (S .n) (possible S X w i)) 1))
+  where
+    go : (eqb (size (S .n) (possible S X w i)) 1 ≡ true) ⊎ (eqb (size (S .n) (possible S X w i)) 1 ≡ false) → resolving position set ≡ resolve position (soleAt S X w i)
+    go (inr q) = rw (resolving, e, size-wide (S .n) (possible S X w i) small, soleAt, q)
+    go (inl q) =
+        let (x, s) = size-sole (S .n) (possible S X w i) (eqb-true _ _ q) in
+        let v = sole-wide (S .n) (possible S X w i) small x s in
+        rw (resolving, e, least-sole 64 _ x v, size-wide (S .n) (possible S X w i) small, soleAt, q, least-sole (S .n) (possible S X w i) x s)
+
+-- A LETTER, where neither 8 nor 9 applies
+module _ (S : Semiautomaton) (k : ℕ) (bytes : List ℕ) (a : ℕ) where
+  pub judged-10 : (tidy k bytes && sound S k (decode bytes)) ≡ false → refused 10 ≡ judged S k bytes a .reply
+  unfolding judged feed
+  judged-10 e = go (tidy k bytes) refl e
+    where
+      go : (t : Bool) → tidy k bytes ≡ t → (t && sound S k (decode bytes)) ≡ false → refused 10 ≡ judged S k bytes a .reply
+      go false t e = rw (judged, t)
+      go true t e = rw (judged, t, feed, e)
+
+module _ {S : Semiautomaton} {k here starts : ℕ} {bytes : List ℕ} (s : Standing S k bytes here) (b : By S starts) (a : ℕ) where
+  pub judged-11 : limit ≤ decode bytes .fed → refused 11 ≡ judged S k bytes a .reply
+  unfolding judged feed
+  judged-11 h = rw (s .tidied, feed, s .is-sound, le-leb limit (decode bytes .fed) h)
+
+  module _ (h : decode bytes .fed < limit) where
+    pub judged-12 : S .m ≤ a → refused 12 ≡ judged S k bytes a .reply
+    unfolding judged feed
+    judged-12 g = rw (s .tidied, feed, s .is-sound, lt-leb limit (decode bytes .fed) h, le-leb (S .m) a g)
+
+    module _ (g : a < S .m) {next : ℕ} (step-is : next ≡ setOf (S .n) (step S (has here) a)) where
+      w : List ℕ
+      w = decode bytes .held ++ (a ∷ [])
+
+      reached : next ≡ setOf (S .n) (reach S (base S k (decode bytes)) w)
+      unfolding w
+      reached =
+          step-is
+          ∙ setOf-cong (S .n) _ _ (λ t _. ap (λ (x : ℕ). step S (has x) a t) (s .is) ∙ step-members S (reach S (base S k (decode bytes)) (decode bytes .held)) a t)
+          ∙ ap (setOf (S .n)) (sym (reach-append S (base S k (decode bytes)) (decode bytes .held) (a ∷ [])))
+
+      walks : walkable S (base S k (decode bytes)) w ≡ any (S .n) (reach S (base S k (decode bytes)) w)
+      walks = walkable-reach S (b .within) (base S k (decode bytes)) (base-below b k (decode bytes) (s .keeps .last-lt)) w
+
+      pub judged-13 : next ≡ 0 → refused 13 ≡ judged S k bytes a .reply
+      unfolding judged feed w
+      judged-13 z = rw (s .tidied, feed, s .is-sound, lt-leb limit (decode bytes .fed) h, lt-leb (S .m) a g, walks ∙ none-of (S .n) _ reached z)
+
+      module _ (some : ¬ (next ≡ 0)) where
+        pub next-letters : Letters (S .m) (decode bytes .held ++ (a ∷ []))
+        unfolding w
+        next-letters = let (x, _, q) = any-out (S .n) _ (some-of (S .n) _ reached some) in reach-letters S (b .within) (base S k (decode bytes)) w x q
+
+        settles : judged S k bytes a .reply ≡ settle S k (base S k (decode bytes)) (suc (decode bytes .fed)) (decode bytes .held ++ (a ∷ []))
+        unfolding judged feed w
+        settles = rw (s .tidied, feed, s .is-sound, lt-leb limit (decode bytes .fed) h, lt-leb (S .m) a g, walks ∙ some-of (S .n) _ reached some)
+
+        pub judged-nothing : suc (decode bytes .fed) < k → nothing ≡ judged S k bytes a .reply
+        unfolding settle
+        judged-nothing l = rw (settles, settle, lt-ltb (suc (decode bytes .fed)) k l)
+
+        pub judged-resolved : k ≤ suc (decode bytes .fed) → (from : ℕ) → has from ≡ base S k (decode bytes) → {set fed : ℕ} {part : List ℕ} → part ≡ decode bytes .held
+            → set ≡ setOf (S .n) (possible S (has from) (part ++ (a ∷ [])) (suc (length part) - k)) → fed ≡ decode bytes .fed → (reply : Reply) → reply ≡ resolving (fed + 1 - k) set
+            → reply ≡ judged S k bytes a .reply
+        unfolding settle
+        judged-resolved l from is {set} {fed} {part} q e f reply d =
+            let same : set ≡ setOf (S .n) (possible S (base S k (decode bytes)) (decode bytes .held ++ (a ∷ [])) (length (decode bytes .held ++ (a ∷ [])) - k)) =
+            rw (length-snoc (decode bytes .held) a) (rw (is, q) at e) in
+            d ∙ rw (f, add-one (decode bytes .fed))
+            (resolving-is S (b .states) (base S k (decode bytes)) (decode bytes .held ++ (a ∷ [])) (length (decode bytes .held ++ (a ∷ [])) - k) (suc (decode bytes .fed) - k) same
+            ∙ rw (settles, settle, le-ltb (suc (decode bytes .fed)) k l))
+
+-- WHAT IS LEFT
+
+-- a call with refusals leaves what its reply leaves
+checked-state : (cs : List Check) (r : Rec) (left : Reply → Rec) → ((number : ℕ) → left (refused number) ≡ r) → (v : Reply)
+    → checked cs r (record { reply = v; state = left v }) .state ≡ left (checked cs r (record { reply = v; state = left v }) .reply)
+checked-state [] r left h v = refl
+checked-state (c ∷ cs) r left h v = go (c .applies) (checked-state cs r left h v)
+  where
+    go : (b : Bool) → checked cs r (record { reply = v; state = left v }) .state ≡ left (checked cs r (record { reply = v; state = left v }) .reply)
+        → cond b (record { reply = refused (c .number); state = r }) (checked cs r (record { reply = v; state = left v })) .state
+        ≡ left (cond b (record { reply = refused (c .number); state = r }) (checked cs r (record { reply = v; state = left v })) .reply)
+    go true ih = sym (h (c .number))
+    go false ih = ih
+
+module _ (S : Semiautomaton) (k : ℕ) (bytes : List ℕ) (a : ℕ) where
+  pub judged-state : judged S k bytes a .state ≡ fedInto k bytes a (judged S k bytes a .reply)
+  unfolding judged feed fedInto
+  judged-state = go (tidy k bytes) refl
+    where
+      go : (t : Bool) → tidy k bytes ≡ t → judged S k bytes a .state ≡ fedInto k bytes a (judged S k bytes a .reply)
+      go false t = rw (judged, t, fedInto)
+      go true t = rw (judged, t, fedInto) (ap (λ (r : Rec). written k bytes r (feed S k (decode bytes) a .reply))
+          (checked-state (feedChecks S k (decode bytes) a) (decode bytes) (after k (decode bytes) (suc (decode bytes .fed)) (decode bytes .held ++ (a ∷ []))) (λ _. refl)
+          (settle S k (base S k (decode bytes)) (suc (decode bytes .fed)) (decode bytes .held ++ (a ∷ [])))))
+
+  pub judged-ready : Ready k bytes (judged S k bytes a .reply)
+  unfolding judged feed
+  judged-ready = go (tidy k bytes) (sound S k (decode bytes)) (leb limit (decode bytes .fed)) refl refl refl
+    where
+      go : (t o l : Bool) → tidy k bytes ≡ t → sound S k (decode bytes) ≡ o → leb limit (decode bytes .fed) ≡ l → Ready k bytes (judged S k bytes a .reply)
+      go false o l t q f e = let z : true ≡ false = rw (judged, t) at e in absurd (true≢false z)
+      go true false l t q f e = let z : true ≡ false = rw (judged, t, feed, q) at e in absurd (true≢false z)
+      go true true true t q f e = let z : true ≡ false = rw (judged, t, feed, q, f) at e in absurd (true≢false z)
+      go true true false t q f e = (t, leb-false _ _ f)
+
+-- a refusal keeps the bytes
+pub fed-kept : (k : ℕ) (bytes : List ℕ) (a : ℕ) (reply : Reply) → isRefusal reply ≡ true → bytes ≡ fedInto k bytes a reply
+unfolding fedInto
+fed-kept k bytes a (refused number) e = refl
+fed-kept k bytes a (resolved i x) e = absurd (false≢true e)
+fed-kept k bytes a nothing e = absurd (false≢true e)
+
+pub fed-taken : (k : ℕ) (bytes : List ℕ) (a : ℕ) (reply : Reply) → isRefusal reply ≡ false → takenInto k bytes a (lastAfter reply (decode bytes .last)) ≡ fedInto k bytes a reply
+unfolding fedInto takenInto
+fed-taken k bytes a (refused number) e = absurd (true≢false e)
+fed-taken k bytes a (resolved i x) e = refl
+fed-taken k bytes a nothing e = refl
+
+-- OPENING
+
+pub opened-kept : (k : ℕ) (bytes : List ℕ) (reply : Reply) → isRefusal reply ≡ true → bytes ≡ openedInto k bytes reply
+unfolding openedInto
+opened-kept k bytes (refused number) e = refl
+opened-kept k bytes (resolved i x) e = absurd (false≢true e)
+opened-kept k bytes nothing e = absurd (false≢true e)
+
+pub opened-taken : (k : ℕ) (bytes : List ℕ) (reply : Reply) → isRefusal reply ≡ false
+    → encode k (record { fed = 0; last = lastAfter reply 255; held = latest k [] }) ++ drop (heldFrom + k) bytes ≡ openedInto k bytes reply
+unfolding openedInto
+opened-taken k bytes (refused number) e = absurd (true≢false e)
+opened-taken k bytes (resolved i x) e = refl
+opened-taken k bytes nothing e = refl
+
+module _ (S : Semiautomaton) (k : ℕ) where
+  opened-left : opened S k .state ≡ after k unopened 0 [] (opened S k .reply)
+  unfolding opened
+  opened-left =
+      checked-state (record { number = 13; applies = not (any (S .n) (S .initial)) } ∷ []) unopened (after k unopened 0 []) (λ _. refl) (settle S k (S .initial) 0 [])
+
+  pub opened-state : (bytes : List ℕ) → onto k bytes (opened S k) .state ≡ openedInto k bytes (opened S k .reply)
+  unfolding openedInto
+  opened-state bytes = ap (λ (r : Rec). written k bytes r (opened S k .reply)) opened-left
+
+  module _ {starts : ℕ} (b : By S starts) where
+    start-set : starts ≡ setOf (S .n) (possible S (S .initial) [] 0)
+    unfolding possible spells
+    start-set = sym (setOf-has (S .n) starts (b .below)) ∙ setOf-cong (S .n) _ _ (λ t _. rw (b .initial) (sym (and-true (has starts t))))
+
+    pub opening-is : opening k starts ≡ opened S k .reply
+    unfolding opening opened settle
+    opening-is = go (decided (eqb starts 0)) (decided (ltb 0 k))
+      where
+        some : eqb starts 0 ≡ false → any (S .n) (S .initial) ≡ true
+        some e = rw (b .initial) (some-member (S .n) starts (omega (arith, eqb-false starts 0 e)) (b .below))
+
+        go : (eqb starts 0 ≡ true) ⊎ (eqb starts 0 ≡ false) → (ltb 0 k ≡ true) ⊎ (ltb 0 k ≡ false) → opening k starts ≡ opened S k .reply
+        go (inl e) l =
+            let none : any (S .n) (S .initial) ≡ false = rw (b .initial) (any-none (S .n) (has starts) (λ t _. rw (eqb-true starts 0 e) (has-empty t))) in
+            rw (opening, e, opened, none)
+        go (inr e) (inl l) = rw (opening, e, l, opened, some e, settle)
+        go (inr e) (inr l) =
+            let z : k ≡ 0 = omega (arith, ltb-false 0 k l) in
+            rw (opening, e, l, opened, some e, settle, z) (resolving-is S (b .states) (S .initial) [] 0 0 start-set)

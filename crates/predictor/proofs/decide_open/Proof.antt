@@ -1,0 +1,25 @@
+-- `decide_open` meets its contract.
+-- Assumes nothing.
+use borrow.Author.Tests.{ne-eqb, lt-ltb, le-ltb}
+use Rattle.predictor.specs.Parts.{opening}
+use borrow.Author.Needs.{needs}
+use Rattle.predictor.proofs.decide_open.Statement.{statement}
+use Rattle.predictor.proofs.decide_open.Tie as tie
+
+returns : tie.Need-returns
+unfolding opening
+returns c = rw (c .if1 .taken)
+
+returns-2 : tie.Need-returns-2
+unfolding opening
+returns-2 c = rw (ne-eqb _ 0 (c .before .if1 .left), lt-ltb 0 _ (c .if2 .taken))
+
+resolution-requires : tie.Need-resolution-requires
+resolution-requires c κs = search needs
+
+returns-3 : tie.Need-returns-3
+unfolding opening
+returns-3 c = rw (ne-eqb _ 0 (c .before .before .if1 .left), le-ltb 0 _ (c .before .if2 .left)) (c .resolution .ensures)
+
+pub decide-open-spec : {M : Type 1} → statement M
+decide-open-spec = tie.close (tie.spec returns returns-2 resolution-requires returns-3)

@@ -1,0 +1,56 @@
+-- `is_zero` meets its contract. Between two turns `zero` tells of the first i bytes.
+-- Assumes nothing.
+use Prim.Native.Nat.{_+_, _-_, _≤_}
+use mathlib.Core.Bool.{not}
+use mathlib.Core.Path.{_≡_, refl}
+use native.Mathlib.Numerals.{add-one}
+use native.Mathlib.Omega.{arith}
+use lib.Dec.{eqb}
+use lib.ListN.{getD}
+use Rattle.bitset.specs.Sets.{any}
+use Rattle.predictor.proofs.Bytes.{joined}
+use Rattle.predictor.proofs.is_zero.Statement.{statement}
+use Rattle.predictor.proofs.is_zero.Tie as tie
+
+abbrev Inv-loop : tie.InvT-loop
+Inv-loop rec from count zero₀ i₀ zero i = (i ≤ count) × (zero ≡ not (any i (λ j. not (eqb (getD rec (from + j) 0) 0))))
+
+abbrev μ-loop : tie.MeasureT-loop
+μ-loop rec from count zero₀ i₀ zero i = count - i
+
+loop-holds : tie.Need-loop-holds Inv-loop μ-loop
+unfolding any
+loop-holds c = (omega arith, refl)
+
+add-zero : tie.Need-add-zero Inv-loop μ-loop
+add-zero c = omega arith
+
+shared-slice-read-zero : tie.Need-shared-slice-read-zero Inv-loop μ-loop
+shared-slice-read-zero c = omega arith
+
+add-i : tie.Need-add-i Inv-loop μ-loop
+add-i c = omega arith
+
+loop-less : tie.Need-loop-less Inv-loop μ-loop
+loop-less c = omega arith
+
+loop-again : tie.Need-loop-again Inv-loop μ-loop
+unfolding any
+loop-again c = let i = c .before .before .loop in (omega arith, rw (i .inv .1, add-one) (joined (any (i .i) _) _))
+
+returns : tie.Need-returns Inv-loop μ-loop
+returns c = let i = c .before .loop in let e : i .i ≡ c .before .before .args .count = omega arith in rw (← e) (i .inv .1)
+
+pub is-zero-spec : {M : Type 1} → statement M
+is-zero-spec =
+    tie.close
+    (tie.spec
+    Inv-loop
+    μ-loop
+    loop-holds
+    add-zero
+    shared-slice-read-zero
+    add-i
+    loop-less
+    loop-again
+    returns)

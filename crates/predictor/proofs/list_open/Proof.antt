@@ -1,0 +1,155 @@
+-- `list_open` meets its contract: the possible states are traced into a buffer, and the last of them copied.
+-- Assumes nothing.
+use Prim.Native.Nat.{suc, _+_, _-_, _≤_}
+use mathlib.Core.Path.{_≡_, refl, sym}
+use native.Mathlib.Omega.{arith}
+use lib.ListN.{length, take, drop, length-take, length-drop}
+use Rattle.semiautomata.specs.Semiautomaton.{Semiautomaton}
+use Rattle.semiautomata.specs.Successors.{successors}
+use Rattle.predictor.specs.Bytes.{decode}
+use Rattle.predictor.specs.Parts.{standing}
+use Rattle.predictor.proofs.Bytes.{part-first, part-whole}
+use Rattle.predictor.proofs.Standing.{By, by-sets, from-is, from-lt, Standing, standing-some}
+use Rattle.predictor.proofs.Ending.{open-sets, open-count}
+use borrow.Author.Needs.{needs}
+use Rattle.predictor.proofs.list_open.Statement.{statement}
+use Rattle.predictor.proofs.list_open.Tie as tie
+
+abbrev meaning : tie.Start → Semiautomaton
+meaning c = let a = c .args in successors (a .n) (a .m) (a .starts) (a .sets .now)
+
+abbrev start : tie.After-held-of → tie.Start
+start c = c .before .before .before .before
+
+by : (c : tie.Start) → By (meaning c) (c .args .starts)
+by c = by-sets (c .pre .0) (c .pre .1)
+
+stands : (c : tie.Start) → let a = c .args in Standing (meaning c) (a .k) (a .rec .now) (standing (meaning c) (a .k) (a .rec .now))
+stands c = let a = c .args in standing-some (by c) (a .k) (a .rec .now) (c .pre .2) refl (c .pre .5)
+
+few : (c : tie.After-held-of) → (c .held-of .result ≤ start c .args .k) × (start c .args .k ≤ 2016)
+few c = (omega (arith, stands (start c) .keeps .held-is, c .held-of .ensures), start c .pre .3)
+
+part : (c : tie.After-held-of) → take (8 + c .held-of .result - 8) (drop 8 (start c .args .rec .now)) ≡ decode (start c .args .rec .now) .held
+part c = part-first 8 _ _ (start c .args .rec .now) (c .held-of .ensures)
+
+long : (c : tie.After-trace) → length (c .trace .last .1 .1 .1 .1 .1 .0) ≡ 2017
+long c = c .trace .kept .1 .1 .1 .1 .1 .0
+
+abbrev held-before : tie.After-trace → tie.After-held-of
+held-before c = c .before .before .before .before .before .before
+
+held-of-requires : tie.Need-held-of-requires
+held-of-requires c κs = search needs
+
+fed-of-requires : tie.Need-fed-of-requires
+fed-of-requires c κs = search needs
+
+shared-slice-read-base-of : tie.Need-shared-slice-read-base-of
+shared-slice-read-base-of c = search needs
+
+base-of-requires : tie.Need-base-of-requires
+base-of-requires c κs = search needs
+
+add-end : tie.Need-add-end
+add-end c = let h = c .before .before .before in omega (arith, few h .0, start h .pre .2)
+
+sub-trace : tie.Need-sub-trace
+sub-trace c = search needs
+
+part-trace-start : tie.Need-part-trace-start
+part-trace-start c = search needs
+
+part-trace-end : tie.Need-part-trace-end
+part-trace-end c = let h = c .before .before .before in omega (arith, few h .0, start h .pre .2)
+
+slice-aggregate-trace : tie.Need-slice-aggregate-trace
+slice-aggregate-trace c = search needs
+
+trace-requires : tie.Need-trace-requires
+trace-requires c κs = let h = c .before .before .before .before .before in
+    let s = start h in
+    let a = s .args in
+    let o = stands s in
+    let q = part h in (
+      s .pre .0,
+      from-lt (by s) _ (decode (a .rec .now)) (o .keeps .last-lt) (c .before .before .base-of .ensures) (c .before .before .before .before .fed-of .ensures),
+      rw q (o .letters),
+      rw (q, o .long, o .keeps .held-is) (omega (arith, s .pre .3)),
+    )
+
+add-lesser : tie.Need-add-lesser
+add-lesser c = omega (arith, few (c .before .before .before .before .before .before .before))
+
+lesser-requires : tie.Need-lesser-requires
+lesser-requires c κs = search needs
+
+add-from : tie.Need-add-from
+add-from c = omega (arith, few (c .before .before .before .before .before .before .before .before))
+
+sub-from : tie.Need-sub-from
+sub-from c = search needs
+
+mul-copy : tie.Need-mul-copy
+mul-copy c = omega (arith, few (c .before .before .before .before .before .before .before .before .before))
+
+sub-copy : tie.Need-sub-copy
+sub-copy c = omega (arith, few (c .before .before .before .before .before .before .before .before .before))
+
+part-copy-start : tie.Need-part-copy-start
+part-copy-start c = omega (arith, few (c .before .before .before .before .before .before .before .before .before .before))
+
+part-copy-end : tie.Need-part-copy-end
+part-copy-end c = search needs
+
+copy-requires : tie.Need-copy-requires
+copy-requires c κs = let t = c .before .before .before .before .before in
+    let h = held-before t in
+    (simp (length-take, length-drop) (omega (arith, long t, few h, c .before .before .before .lesser .ensures)), omega (arith, c .before .before .before .lesser .ensures, start h .pre .4))
+
+same-length : tie.Need-same-length
+same-length c = search needs
+
+returns : tie.Need-returns
+returns c = let t = c .before .before .before .before .before .before .before .before in
+    let g = held-before t in
+    let s = start g in
+    let a = s .args in
+    let o = stands s in
+    let all = t .trace .last .1 .1 .1 .1 .1 .0 in
+    let h = g .held-of .result in
+    let count = c .before .before .before .before .before .before .lesser .result in
+    let from = c .before .before .before .before .before .before .before .before .before .before .before .base-of .result in
+    let is = from-is (by s) _ (decode (a .rec .now)) (o .keeps .last-lt) (c .before .before .before .before .before .before .before .before .before .before .before .base-of .ensures) (c .before .before .before .before .before .before .before .before .before .before .before .before .before .fed-of .ensures) in
+    let w = t .trace .ensures (a .starts) in
+    let room : suc h ≤ length all = omega (arith, long t, few g) in
+    let sets = open-sets (meaning s) (a .k) (a .rec .now) o from is (part g) w h count (g .held-of .ensures) room (c .before .before .before .before .before .before .lesser .ensures) in
+    let number = open-count (meaning s) (a .k) (a .rec .now) o from is (part g) w h count (g .held-of .ensures) room (c .before .before .before .before .before .before .lesser .ensures) in
+    let whole = part-whole (h + 1 - count) (2017 - (h + 1 - count)) all (omega (arith, long t)) in
+    (sym number, rw (number, sets) (rw whole at (c .before .before .copy .ensures)))
+
+pub list-open-spec : {M : Type 1} → statement M
+list-open-spec =
+    tie.close
+    (tie.spec
+    held-of-requires
+    fed-of-requires
+    shared-slice-read-base-of
+    base-of-requires
+    add-end
+    sub-trace
+    part-trace-start
+    part-trace-end
+    slice-aggregate-trace
+    trace-requires
+    add-lesser
+    lesser-requires
+    add-from
+    sub-from
+    mul-copy
+    sub-copy
+    part-copy-start
+    part-copy-end
+    copy-requires
+    same-length
+    returns)

@@ -1,0 +1,65 @@
+-- `move_up` meets its contract. Between two turns the first i places hold what stood one place further on.
+-- Assumes nothing.
+use Prim.Native.Nat.{_-_, _≤_}
+use native.Mathlib.Omega.{arith}
+use lib.ListN.{length-set}
+use Rattle.predictor.proofs.Held.{Moved, moved-none, moved-more, moved-all}
+use Rattle.predictor.proofs.move_up.Statement.{statement}
+use Rattle.predictor.proofs.move_up.Tie as tie
+
+abbrev Inv-loop : tie.InvT-loop
+Inv-loop held₀ k letter last i₀ held i = (i ≤ last) × Moved held₀ i held
+
+abbrev μ-loop : tie.MeasureT-loop
+μ-loop held₀ k letter last i₀ held i = last - i
+
+sub-last : tie.Need-sub-last Inv-loop μ-loop
+sub-last c = omega arith
+
+loop-holds : tie.Need-loop-holds Inv-loop μ-loop
+loop-holds c = (omega arith, moved-none _)
+
+add-held : tie.Need-add-held Inv-loop μ-loop
+add-held c = omega arith
+
+slice-read-held : tie.Need-slice-read-held Inv-loop μ-loop
+slice-read-held c = omega (arith, c .before .before .loop .inv .1 .long)
+
+slice-write-held : tie.Need-slice-write-held Inv-loop μ-loop
+slice-write-held c = omega (arith, c .before .before .loop .inv .1 .long)
+
+add-i : tie.Need-add-i Inv-loop μ-loop
+add-i c = omega arith
+
+loop-less : tie.Need-loop-less Inv-loop μ-loop
+loop-less c = omega arith
+
+loop-again : tie.Need-loop-again Inv-loop μ-loop
+loop-again c = let i = c .before .before .loop in (omega arith, moved-more (i .inv .1) (omega arith))
+
+slice-write-held-2 : tie.Need-slice-write-held-2 Inv-loop μ-loop
+slice-write-held-2 c = omega (arith, c .before .loop .inv .1 .long)
+
+same-length : tie.Need-same-length Inv-loop μ-loop
+same-length c = simp length-set (c .before .loop .inv .1 .long)
+
+returns : tie.Need-returns Inv-loop μ-loop
+returns c = moved-all (c .before .loop .inv .1) _ _ (omega arith) (omega arith) (omega arith)
+
+pub move-up-spec : {M : Type 1} → statement M
+move-up-spec =
+    tie.close
+    (tie.spec
+    Inv-loop
+    μ-loop
+    sub-last
+    loop-holds
+    add-held
+    slice-read-held
+    slice-write-held
+    add-i
+    loop-less
+    loop-again
+    slice-write-held-2
+    same-length
+    returns)

@@ -1,0 +1,63 @@
+-- Opening, a letter fed and ending over a table and record bytes: refusals 8 and 9 of the buffers, then the rules of
+-- crates/semiautomata/specs/Streaming on what the bytes hold.
+-- Assumes nothing.
+use Prim.Native.Nat.{ℕ, _+_}
+use mathlib.Core.Bool.{not, _||_}
+use mathlib.Core.Path.{_≡_}
+use mathlib.Core.List.{List, [], _∷_, _++_, map}
+use lib.Dec.{ltb}
+use lib.ListN.{length, drop}
+use Rattle.bitset.specs.Sets.{setOf}
+use Rattle.semiautomata.specs.Calls.{Reply, refused, resolved, nothing, Result, Check, checked, lowest}
+use Rattle.semiautomata.specs.Streaming.{Rec, opened, feed, finish, soundCheck}
+use Rattle.table.specs.Table.{statesOf, lookaheadOf, tableMeaning, unfit}
+use Rattle.predictor.specs.declared.Ended.{Ended}
+use Rattle.predictor.specs.declared.Ended.the-variants.{Open, Refused}
+use Rattle.predictor.specs.Bytes.{heldFrom, decode, tidy, encode}
+
+-- 8, of the table; 9, of the record: fewer than 8 + k bytes; 10, of its layout.
+abbrev pub tableCheck : List ℕ → Check
+tableCheck table = record { number = 8; applies = unfit table }
+
+abbrev pub recordCheck : List ℕ → List ℕ → Check
+recordCheck table bytes = record { number = 9; applies = ltb (length bytes) (heldFrom + lookaheadOf table) }
+
+abbrev pub tidyCheck : List ℕ → List ℕ → Check
+tidyCheck table bytes = record { number = 10; applies = not (tidy (lookaheadOf table) bytes) }
+
+-- What is written of a reply: nothing under a refusal, else the record's bytes, the rest of the buffer as it was.
+abbrev pub written : ℕ → List ℕ → Rec → Reply → List ℕ
+written k bytes r (refused number) = bytes
+written k bytes r (resolved i x) = encode k r ++ drop (heldFrom + k) bytes
+written k bytes r nothing = encode k r ++ drop (heldFrom + k) bytes
+
+abbrev pub onto : ℕ → List ℕ → Result Rec → Result (List ℕ)
+onto k bytes done = record { reply = done .reply; state = written k bytes (done .state) (done .reply) }
+
+unfoldable pub openedOn : List ℕ → List ℕ → Result (List ℕ)
+openedOn table bytes =
+    checked (tableCheck table ∷ recordCheck table bytes ∷ []) bytes (onto (lookaheadOf table) bytes (opened (tableMeaning table) (lookaheadOf table)))
+
+unfoldable pub fedOn : List ℕ → List ℕ → ℕ → Result (List ℕ)
+fedOn table bytes a =
+    checked (tableCheck table ∷ recordCheck table bytes ∷ tidyCheck table bytes ∷ []) bytes
+    (onto (lookaheadOf table) bytes (feed (tableMeaning table) (lookaheadOf table) (decode bytes) a))
+
+-- Ending: 9 also for fewer than k sets lent.
+unfoldable pub endRefusal : List ℕ → List ℕ → ℕ → ℕ
+endRefusal table bytes sets =
+    lowest
+    (tableCheck table
+    ∷ record { number = 9; applies = ltb (length bytes) (heldFrom + lookaheadOf table) || ltb sets (lookaheadOf table) }
+    ∷ tidyCheck table bytes
+    ∷ soundCheck (tableMeaning table) (lookaheadOf table) (decode bytes)
+    ∷ [])
+
+-- The sets that ending writes, as numbers.
+abbrev pub ended : List ℕ → List ℕ → List ℕ
+ended table bytes = map (setOf (statesOf table)) (finish (tableMeaning table) (lookaheadOf table) (decode bytes))
+
+abbrev pub Ends : List ℕ → List ℕ → Ended → List ℕ → List ℕ → Type 0
+Ends table bytes (Refused r) old out = (r ≡ endRefusal table bytes (length old)) × ¬ (r ≡ 0) × (out ≡ old)
+Ends table bytes (Open c) old out =
+    (endRefusal table bytes (length old) ≡ 0) × (c ≡ length (ended table bytes)) × (out ≡ ended table bytes ++ drop (length (ended table bytes)) old)

@@ -1,0 +1,4 @@
+pub mod Bytes
+pub mod Replies
+pub mod Calls
+pub mod Parts

@@ -1,0 +1,76 @@
+-- What the parts of a call promise: how a record is read and judged, what a letter does to the held letters, and what an answer leaves.
+-- Assumes nothing.
+use Prim.Native.Nat.{ℕ, suc, _+_, _-_, _<_, min}
+use mathlib.Core.Bool.{Bool, true, false, not, cond, _&&_}
+use mathlib.Core.Path.{_≡_}
+use mathlib.Core.List.{List, [], _∷_, _++_, map}
+use lib.Dec.{eqb, ltb, leb}
+use lib.ListN.{take, drop}
+use Rattle.bitset.specs.Sets.{size, least, has, setOf, single}
+use Rattle.semiautomata.specs.Semiautomaton.{Semiautomaton}
+use Rattle.semiautomata.specs.Walks.{reach}
+use Rattle.semiautomata.specs.Calls.{Reply, refused, resolved, nothing, Result, checked}
+use Rattle.semiautomata.specs.PlainWalk.{limit}
+use Rattle.semiautomata.specs.Streaming.{base, rules, every, latest, after, unopened, feed, finish}
+use Rattle.predictor.specs.Bytes.{heldFrom, decode, tidy, encode}
+use Rattle.predictor.specs.Calls.{written, onto}
+
+-- The rules of a record as tests of its numbers.
+abbrev pub regular : ℕ → ℕ → ℕ → ℕ → ℕ → Bool
+regular n k fed last held = leb fed limit && (eqb held (min fed k) && (cond (ltb fed k) (eqb last 255) (ltb last n) && true))
+
+-- The base as a number.
+unfoldable pub baseSet : ℕ → ℕ → ℕ → ℕ → ℕ
+baseSet k starts fed last = cond (ltb fed k) starts (setOf 64 (single last))
+
+-- The states that the held letters lead to from the base; none where the record breaks its rules.
+unfoldable pub standing : Semiautomaton → ℕ → List ℕ → ℕ
+standing S k bytes =
+    cond (tidy k bytes && every (rules S k (decode bytes))) (setOf (S .n) (reach S (base S k (decode bytes)) (decode bytes .held))) 0
+
+-- Of letters of which h are held, once one more is taken: it is put behind them, and where k are held the oldest goes.
+unfoldable pub pushed : ℕ → ℕ → List ℕ → ℕ → List ℕ
+pushed k h letters a = drop (suc h - k) (take h letters ++ (a ∷ [])) ++ drop (suc h - (suc h - k)) letters
+
+-- A set's only state is resolved; any other set is refused with 14.
+unfoldable pub resolving : ℕ → ℕ → Reply
+resolving position set = cond (eqb (size 64 (has set)) 1) (resolved position (least 64 (has set))) (refused 14)
+
+-- The reply to opening where neither 8 nor 9 applies.
+unfoldable pub opening : ℕ → ℕ → Reply
+opening k starts = cond (eqb starts 0) (refused 13) (cond (ltb 0 k) nothing (resolving 0 starts))
+
+-- The sets that ending writes.
+unfoldable pub openSets : Semiautomaton → ℕ → List ℕ → List ℕ
+openSets S k bytes = map (setOf (S .n)) (finish S k (decode bytes))
+
+-- A letter fed, where neither 8 nor 9 applies.
+unfoldable pub judged : Semiautomaton → ℕ → List ℕ → ℕ → Result (List ℕ)
+judged S k bytes a = checked (record { number = 10; applies = not (tidy k bytes) } ∷ []) bytes (onto k bytes (feed S k (decode bytes) a))
+
+abbrev pub isRefusal : Reply → Bool
+isRefusal (refused number) = true
+isRefusal (resolved i x) = false
+isRefusal nothing = false
+
+-- The last resolved state once a reply is given.
+abbrev pub lastAfter : Reply → ℕ → ℕ
+lastAfter (refused number) last = last
+lastAfter (resolved i x) last = x
+lastAfter nothing last = last
+
+-- The bytes once a letter is taken.
+unfoldable pub takenInto : ℕ → List ℕ → ℕ → ℕ → List ℕ
+takenInto k bytes a last =
+    encode k (record { fed = suc (decode bytes .fed); last = last; held = latest k (decode bytes .held ++ (a ∷ [])) }) ++ drop (heldFrom + k) bytes
+
+-- What a letter's reply, and opening's, leaves of the bytes.
+unfoldable pub fedInto : ℕ → List ℕ → ℕ → Reply → List ℕ
+fedInto k bytes a reply = written k bytes (after k (decode bytes) (suc (decode bytes .fed)) (decode bytes .held ++ (a ∷ [])) reply) reply
+
+unfoldable pub openedInto : ℕ → List ℕ → Reply → List ℕ
+openedInto k bytes reply = written k bytes (after k unopened 0 [] reply) reply
+
+-- A letter is taken only into a tidy record that is not full.
+abbrev pub Ready : ℕ → List ℕ → Reply → Type 0
+Ready k bytes reply = isRefusal reply ≡ false → (tidy k bytes ≡ true) × (decode bytes .fed < limit)

@@ -1,0 +1,442 @@
+// Walks letter by letter (document 01, Walks): a record of bytes that is opened, fed and finished on a prepared table.
+// A call is judged and decided first, by what it reads; only then is the record written, and a refused call writes nothing.
+ghost use mathlib.Core.Path.{_≡_};
+ghost use mathlib.Core.Bool.{true, not};
+ghost use mathlib.Core.List.{[], _∷_, _++_};
+ghost use Prim.Native.Nat.{ℕ, suc, _+_, _-_, _^_, _≤_, _<_, min};
+ghost use lib.Dec.{eqb, ltb};
+ghost use lib.ListN.{length, getD, take, drop, replicate};
+ghost use Rattle.bitset.specs.Sets.{any, has, setOf};
+ghost use Rattle.semiautomata.specs.Walks.{reach, possible};
+ghost use Rattle.semiautomata.specs.Successors.{successors, Fit};
+ghost use Rattle.semiautomata.specs.PlainWalk.{limit};
+ghost use Rattle.table.specs.Walking.{Letters};
+ghost use Rattle.predictor.specs.Bytes.{numberAt, bytesOf, heldCount, decode, tidy};
+ghost use Rattle.predictor.specs.Replies.{said};
+ghost use Rattle.predictor.specs.Calls.{openedOn, fedOn, Ends};
+ghost use Rattle.predictor.specs.Parts.{regular, baseSet, standing, pushed, resolving, judged, opening, openSets, isRefusal, lastAfter, takenInto, fedInto, openedInto, Ready};
+
+// What opening and a letter fed answer: a refusal, a resolved position and its state, or that none was resolved.
+pub enum Answer {
+    Refused(u8),
+    Resolved { position: u32, state: u8 },
+    Nothing,
+}
+
+// What ending answers: how many sets are written, or a refusal.
+pub enum Ended {
+    Open(usize),
+    Refused(u8),
+}
+
+fn wide(x: u8) -> usize
+    ensures { λ r. ⌜ (r ≡ x) × (r < 256) ⌝ }
+{
+    x as usize
+}
+
+fn lesser(a: usize, b: usize) -> usize
+    ensures { λ r. ⌜ r ≡ min a b ⌝ }
+{
+    if a < b { a } else { b }
+}
+
+// READING A RECORD
+
+fn fed_of(rec: &[u8]) -> usize
+    requires { ⌜ 8 ≤ length (now rec) ⌝ }
+    ensures { λ r. ⌜ r ≡ numberAt (now (rec .entry)) 0 4 ⌝ }
+{
+    let a = wide(rec[0]);
+    let b = wide(rec[1]);
+    let c = wide(rec[2]);
+    let d = wide(rec[3]);
+    a + 256 * (b + 256 * (c + 256 * d))
+}
+
+fn held_of(rec: &[u8]) -> usize
+    requires { ⌜ 8 ≤ length (now rec) ⌝ }
+    ensures { λ r. ⌜ r ≡ heldCount (now (rec .entry)) ⌝ }
+{
+    let a = wide(rec[6]);
+    let b = wide(rec[7]);
+    a + 256 * b
+}
+
+// Whether so many bytes from a place on are zero.
+fn is_zero(rec: &[u8], from: usize, count: usize) -> bool
+    requires { ⌜ from + count ≤ length (now rec) ⌝ }
+    ensures { λ r. ⌜ r ≡ not (any count (λ i. not (eqb (getD (now (rec .entry)) (from + i) 0) 0))) ⌝ }
+{
+    let mut zero = true;
+    for i in 0..count {
+        zero = zero & (rec[from + i] == 0);
+    }
+    zero
+}
+
+// Whether a record keeps the rules of the layout.
+fn is_tidy(rec: &[u8], k: usize) -> bool
+    requires { ⌜ 8 + k ≤ length (now rec) ⌝ }
+    ensures { λ r. ⌜ r ≡ tidy k (now (rec .entry)) ⌝ }
+{
+    let held = held_of(rec);
+    if k < held {
+        return false;
+    }
+    (rec[5] == 0) & is_zero(rec, 8 + held, k - held)
+}
+
+// Whether a record's numbers keep its rules.
+fn is_regular(n: usize, k: usize, fed: usize, last: usize, held: usize) -> bool
+    ensures { λ r. ⌜ r ≡ regular n k fed last held ⌝ }
+{
+    let counted = (fed <= 1000000) & (held == lesser(fed, k));
+    if fed < k {
+        counted & (last == 255)
+    } else {
+        counted & (last < n)
+    }
+}
+
+// The base: the initial states while fewer than k letters are taken, else the last resolved state.
+fn base_of(k: usize, starts: u64, fed: usize, last: u8) -> u64
+    ensures { λ r. ⌜ r ≡ baseSet k starts fed last ⌝ }
+{
+    if fed < k {
+        starts
+    } else {
+        bitset::singleton(last as u32)
+    }
+}
+
+// Whether every letter of a word is below m.
+fn are_letters(word: &[u8], m: usize) -> bool
+    ensures { λ r. ⌜ r ≡ not (any (length (now (word .entry))) (λ i. not (ltb (getD (now (word .entry)) i 0) m))) ⌝ }
+{
+    let mut good = true;
+    for i in 0..word.len() {
+        good = good & (wide(word[i]) < m);
+    }
+    good
+}
+
+// The states that a word leads to from a set, whatever its bytes are: a letter of m or more leads nowhere.
+fn walk(sets: &[u64], n: usize, m: usize, set: u64, word: &[u8]) -> u64
+    requires { ⌜ Fit n m (now sets) × (set < 2 ^ n) ⌝ }
+    ensures { λ r. ⌜ ((starts : ℕ) → r ≡ setOf n (reach (successors n m starts (now (sets .entry))) (has set) (now (word .entry)))) ⌝ }
+{
+    if are_letters(word, m) {
+        table::reach_by(sets, n, m, set, word)
+    } else {
+        0
+    }
+}
+
+// The states that the held letters lead to from the base; none where the record breaks its rules.
+fn stand(sets: &[u64], n: usize, m: usize, k: usize, starts: u64, rec: &[u8]) -> u64
+    requires { ⌜ Fit n m (now sets) × (starts < 2 ^ n) × (8 + k ≤ length (now rec)) ⌝ }
+    ensures { λ r. ⌜ r ≡ standing (successors n m starts (now (sets .entry))) k (now (rec .entry)) ⌝ }
+{
+    let fed = fed_of(rec);
+    let held = held_of(rec);
+    let last = rec[4];
+    if !is_tidy(rec, k) {
+        return 0;
+    }
+    if !is_regular(n, k, fed, wide(last), held) {
+        return 0;
+    }
+    let base = base_of(k, starts, fed, last);
+    let end = 8 + held;
+    walk(sets, n, m, base, &rec[8..end])
+}
+
+// DECIDING
+
+// The letters of a word and one more, at the front of a buffer.
+fn join(out: &mut [u8], word: &[u8], letter: u8)
+    requires { ⌜ length (now word) < length (now out) ⌝ }
+    ensures { λ _. ⌜ take (suc (length (now (word .entry)))) (now (out .exit)) ≡ now (word .entry) ++ (letter ∷ []) ⌝ }
+{
+    for i in 0..word.len() {
+        out[i] = word[i];
+    }
+    out[word.len()] = letter;
+}
+
+// The possible states, once a letter is read behind the held ones, at the position that k letters then follow.
+fn due(sets: &[u64], n: usize, m: usize, k: usize, base: u64, held: &[u8], letter: u8) -> u64
+    requires { ⌜ Fit n m (now sets) × (base < 2 ^ n) × Letters m (now held ++ (letter ∷ [])) × (length (now held) ≤ 2016) × (k ≤ suc (length (now held))) ⌝ }
+    ensures { λ r. ⌜ ((starts : ℕ) → r ≡ setOf n (possible (successors n m starts (now (sets .entry))) (has base) (now (held .entry) ++ (letter ∷ [])) (suc (length (now (held .entry))) - k))) ⌝ }
+{
+    let mut word = [0u8; 2017];
+    join(&mut word, held, letter);
+    let end = held.len() + 1;
+    let i = end - k;
+    let here = table::reach_by(sets, n, m, base, &word[..i]);
+    table::survivors_of(sets, n, m, here, &word[i..end])
+}
+
+// A position is resolved where one state is possible.
+fn resolution(position: usize, set: u64) -> Answer
+    requires { ⌜ position ≤ 1000000 ⌝ }
+    ensures { λ r. ⌜ said r ≡ resolving position set ⌝ }
+{
+    if u64::count_ones(set) == 1 {
+        Answer::Resolved {
+            position: position as u32,
+            state: u64::trailing_zeros(set) as u8,
+        }
+    } else {
+        Answer::Refused(14)
+    }
+}
+
+// The answer to a letter; nothing is written.
+fn decide(sets: &[u64], n: usize, m: usize, k: usize, starts: u64, rec: &[u8], letter: u8) -> Answer
+    requires { ⌜ Fit n m (now sets) × (starts < 2 ^ n) × (8 + k ≤ length (now rec)) × (k ≤ 2016) ⌝ }
+    ensures { λ r. ⌜ said r ≡ judged (successors n m starts (now (sets .entry))) k (now (rec .entry)) letter .reply ⌝ }
+{
+    let here = stand(sets, n, m, k, starts, rec);
+    if here == 0 {
+        return Answer::Refused(10);
+    }
+    let fed = fed_of(rec);
+    if fed == 1000000 {
+        return Answer::Refused(11);
+    }
+    let a = wide(letter);
+    if m <= a {
+        return Answer::Refused(12);
+    }
+    let next = table::gather(sets, n, m, here, a);
+    if next.set == 0 {
+        return Answer::Refused(13);
+    }
+    let taken = fed + 1;
+    if taken < k {
+        return Answer::Nothing;
+    }
+    let base = base_of(k, starts, fed, rec[4]);
+    let end = 8 + held_of(rec);
+    let set = due(sets, n, m, k, base, &rec[8..end], letter);
+    resolution(taken - k, set)
+}
+
+// The answer to opening.
+fn decide_open(k: usize, starts: u64) -> Answer
+    ensures { λ r. ⌜ said r ≡ opening k starts ⌝ }
+{
+    if starts == 0 {
+        return Answer::Refused(13);
+    }
+    if 0 < k {
+        return Answer::Nothing;
+    }
+    resolution(0, starts)
+}
+
+// WRITING A RECORD
+
+fn is_refusal(answer: Answer) -> bool
+    ensures { λ r. ⌜ r ≡ isRefusal (said answer) ⌝ }
+{
+    match answer {
+        Answer::Refused(_) => true,
+        Answer::Resolved {
+            position: _,
+            state: _,
+        } => false,
+        Answer::Nothing => false,
+    }
+}
+
+// The last resolved state once an answer is given.
+fn last_after(answer: Answer, last: u8) -> u8
+    ensures { λ r. ⌜ r ≡ lastAfter (said answer) last ⌝ }
+{
+    match answer {
+        Answer::Refused(_) => last,
+        Answer::Resolved { position: _, state } => state,
+        Answer::Nothing => last,
+    }
+}
+
+// The numbers of a record, bytes 0 to 7.
+fn write_numbers(rec: &mut [u8], fed: usize, last: u8, held: usize)
+    requires { ⌜ 8 ≤ length (now rec) ⌝ }
+    ensures { λ _. ⌜ now (rec .exit) ≡ bytesOf 4 fed ++ (last ∷ 0 ∷ bytesOf 2 held ++ drop 8 (now (rec .entry))) ⌝ }
+{
+    rec[0] = (fed % 256) as u8;
+    rec[1] = (fed / 256 % 256) as u8;
+    rec[2] = (fed / 256 / 256 % 256) as u8;
+    rec[3] = (fed / 256 / 256 / 256 % 256) as u8;
+    rec[4] = last;
+    rec[5] = 0;
+    rec[6] = (held % 256) as u8;
+    rec[7] = (held / 256 % 256) as u8;
+}
+
+// All k letters are held: they move up by one, and the letter comes last.
+fn move_up(held: &mut [u8], k: usize, letter: u8)
+    requires { ⌜ (1 ≤ k) × (k ≤ length (now held)) ⌝ }
+    ensures { λ _. ⌜ now (held .exit) ≡ pushed k k (now (held .entry)) letter ⌝ }
+{
+    let last = k - 1;
+    for i in 0..last {
+        held[i] = held[i + 1];
+    }
+    held[last] = letter;
+}
+
+// One letter more, behind the h of at most k that are held.
+fn push(held: &mut [u8], k: usize, h: usize, letter: u8)
+    requires { ⌜ (h ≤ k) × (k ≤ length (now held)) ⌝ }
+    ensures { λ _. ⌜ now (held .exit) ≡ pushed k h (now (held .entry)) letter ⌝ }
+{
+    if h < k {
+        held[h] = letter;
+        return;
+    }
+    if 0 < k {
+        move_up(held, k, letter);
+    }
+}
+
+// A letter is taken into a record.
+fn keep(rec: &mut [u8], k: usize, letter: u8, last: u8)
+    requires { ⌜ (8 + k ≤ length (now rec)) × (tidy k (now rec) ≡ true) × (decode (now rec) .fed < limit) ⌝ }
+    ensures { λ _. ⌜ now (rec .exit) ≡ takenInto k (now (rec .entry)) letter last ⌝ }
+{
+    let fed = fed_of(&rec[..]);
+    let held = held_of(&rec[..]);
+    push(&mut rec[8..], k, held, letter);
+    write_numbers(rec, fed + 1, last, lesser(held + 1, k));
+}
+
+// What an answer leaves of a record that a letter was fed to.
+fn apply(rec: &mut [u8], k: usize, letter: u8, answer: Answer)
+    requires { ⌜ (8 + k ≤ length (now rec)) × Ready k (now rec) (said answer) ⌝ }
+    ensures { λ _. ⌜ now (rec .exit) ≡ fedInto k (now (rec .entry)) letter (said answer) ⌝ }
+{
+    if is_refusal(answer) {
+        return;
+    }
+    let last = last_after(answer, rec[4]);
+    keep(rec, k, letter, last);
+}
+
+fn clear(held: &mut [u8], k: usize)
+    requires { ⌜ k ≤ length (now held) ⌝ }
+    ensures { λ _. ⌜ now (held .exit) ≡ replicate k 0 ++ drop k (now (held .entry)) ⌝ }
+{
+    for i in 0..k {
+        held[i] = 0;
+    }
+}
+
+// What an answer leaves of a record that was opened.
+fn begin(rec: &mut [u8], k: usize, answer: Answer)
+    requires { ⌜ 8 + k ≤ length (now rec) ⌝ }
+    ensures { λ _. ⌜ now (rec .exit) ≡ openedInto k (now (rec .entry)) (said answer) ⌝ }
+{
+    if is_refusal(answer) {
+        return;
+    }
+    let last = last_after(answer, 255);
+    clear(&mut rec[8..], k);
+    write_numbers(rec, 0, last, 0);
+}
+
+// ENDING
+
+// So many sets of a list, at the front of a buffer that keeps its rest.
+fn copy(out: &mut [u64], sets: &[u64], count: usize)
+    requires { ⌜ (count ≤ length (now sets)) × (count ≤ length (now out)) ⌝ }
+    ensures { λ _. ⌜ now (out .exit) ≡ take count (now (sets .entry)) ++ drop count (now (out .entry)) ⌝ }
+{
+    for i in 0..count {
+        out[i] = sets[i];
+    }
+}
+
+// The possible states of the positions of a sound record that are not resolved, and how many these are.
+fn list_open(
+    sets: &[u64],
+    n: usize,
+    m: usize,
+    k: usize,
+    starts: u64,
+    rec: &[u8],
+    out: &mut [u64],
+) -> usize
+    requires { ⌜ Fit n m (now sets) × (starts < 2 ^ n) × (8 + k ≤ length (now rec)) × (k ≤ 2016) × (k ≤ length (now out)) × ¬ (standing (successors n m starts (now sets)) k (now rec) ≡ 0) ⌝ }
+    ensures { λ r. ⌜ (r ≡ length (openSets (successors n m starts (now (sets .entry))) k (now (rec .entry)))) × (now (out .exit) ≡ openSets (successors n m starts (now (sets .entry))) k (now (rec .entry)) ++ drop (length (openSets (successors n m starts (now (sets .entry))) k (now (rec .entry)))) (now (out .entry))) ⌝ }
+{
+    let held = held_of(rec);
+    let base = base_of(k, starts, fed_of(rec), rec[4]);
+    let end = 8 + held;
+    let mut all = [0u64; 2017];
+    table::trace(sets, n, m, base, &rec[8..end], &mut all);
+    let count = lesser(held + 1, k);
+    let from = held + 1 - count;
+    copy(out, &all[from..], count);
+    count
+}
+
+// THE CALLS
+
+// A fresh walk.
+pub fn open(table: &[u64], rec: &mut [u8]) -> Answer
+    ensures { λ r. ⌜ (said r ≡ openedOn (now (table .entry)) (now (rec .entry)) .reply) × (now (rec .exit) ≡ openedOn (now (table .entry)) (now (rec .entry)) .state) ⌝ }
+{
+    if table::is_unfit(table) {
+        return Answer::Refused(8);
+    }
+    let k = table[2] as usize;
+    if rec.len() < 8 + k {
+        return Answer::Refused(9);
+    }
+    let answer = decide_open(k, table[3]);
+    begin(rec, k, answer);
+    answer
+}
+
+// One letter more.
+pub fn feed(table: &[u64], rec: &mut [u8], letter: u8) -> Answer
+    ensures { λ r. ⌜ (said r ≡ fedOn (now (table .entry)) (now (rec .entry)) letter .reply) × (now (rec .exit) ≡ fedOn (now (table .entry)) (now (rec .entry)) letter .state) ⌝ }
+{
+    if table::is_unfit(table) {
+        return Answer::Refused(8);
+    }
+    let n = table[0] as usize;
+    let m = table[1] as usize;
+    let k = table[2] as usize;
+    if rec.len() < 8 + k {
+        return Answer::Refused(9);
+    }
+    let answer = decide(&table[4..], n, m, k, table[3], &rec[..], letter);
+    apply(rec, k, letter, answer);
+    answer
+}
+
+// The possible states of the positions that are not resolved, lowest first.
+pub fn finish(table: &[u64], rec: &[u8], out: &mut [u64]) -> Ended
+    ensures { λ r. ⌜ Ends (now (table .entry)) (now (rec .entry)) r (now (out .entry)) (now (out .exit)) ⌝ }
+{
+    if table::is_unfit(table) {
+        return Ended::Refused(8);
+    }
+    let n = table[0] as usize;
+    let m = table[1] as usize;
+    let k = table[2] as usize;
+    if (rec.len() < 8 + k) | (out.len() < k) {
+        return Ended::Refused(9);
+    }
+    if stand(&table[4..], n, m, k, table[3], rec) == 0 {
+        return Ended::Refused(10);
+    }
+    let count = list_open(&table[4..], n, m, k, table[3], rec, out);
+    Ended::Open(count)
+}

@@ -1,0 +1,39 @@
+-- What follows of the calls of this crate, a line of plain words to each theorem; proofs/Theorems.antt has the proofs.
+-- Assumes nothing.
+use Prim.Native.Nat.{ℕ, _-_, _*_, _/_, _≤_}
+use mathlib.Core.Path.{_≡_}
+use mathlib.Core.List.{List}
+use Rattle.semiautomata.specs.Predictability.{Lookahead}
+use Rattle.semiautomata.specs.Predictability as predictability
+use Rattle.plan.specs.Bytes.{headerOf, meaning}
+use Rattle.lookahead.specs.declared.Evidence.{Evidence}
+use Rattle.prepare.specs.declared.Prepared.{Prepared}
+use Rattle.prepare.specs.declared.Prepared.the-variants.{Ready, Unpredictable}
+use Rattle.prepare.specs.declared.claim.Claim.{Claim}
+use Rattle.prepare.specs.declared.claim.Checked.{Checked}
+use Rattle.prepare.specs.declared.claim.Checked.the-variants.{Yes}
+use Rattle.prepare.specs.Preparing.{Prepares, CountsTo}
+use Rattle.prepare.specs.Checking.{Checks}
+
+-- The claim hands on the numbers of the evidence.
+pub record SameClaim (e : Evidence) (c : Claim) : Type 0 where
+  pub state : c .state ≡ e .state
+  pub letter : c .letter ≡ e .letter
+  pub low : c .low ≡ e .low
+  pub high : c .high ≡ e .high
+  pub stem : c .stem ≡ e .stem
+  pub cycle : c .cycle ≡ e .cycle
+
+pub record Theorems (plan : List ℕ) : Type 0 where
+  -- preparing and the count call agree
+  pub same-k : (k j : ℕ) (old table old′ letters old″ letters′ : List ℕ) → Prepares plan (Ready k) old table old′ letters → CountsTo plan (Ready j) old″ letters′ → j ≡ k
+  pub not-never : (k : ℕ) (e : Evidence) (old table old′ letters old″ letters′ : List ℕ) → Prepares plan (Ready k) old table old′ letters → ¬ CountsTo plan (Unpredictable e) old″ letters′
+  pub not-ready : (k : ℕ) (e : Evidence) (old table old′ letters old″ letters′ : List ℕ) → Prepares plan (Unpredictable e) old table old′ letters → ¬ CountsTo plan (Ready k) old″ letters′
+  -- 15 is said exactly where there is no k
+  pub never-so : (e : Evidence) (old letters : List ℕ) → CountsTo plan (Unpredictable e) old letters → predictability.Unpredictable (meaning plan)
+  pub ready-so : (k : ℕ) (old letters : List ℕ) → CountsTo plan (Ready k) old letters → ¬ predictability.Unpredictable (meaning plan)
+  -- both bounds of k
+  pub bound : (k : ℕ) (old letters : List ℕ) → CountsTo plan (Ready k) old letters → k ≤ headerOf plan .n * (headerOf plan .n - 1) / 2
+  pub bound-one-letter : headerOf plan .m ≡ 1 → (k : ℕ) (old letters : List ℕ) → CountsTo plan (Ready k) old letters → k ≤ headerOf plan .n - 1
+  -- the evidence that is answered passes the check
+  pub evidence-passes : (e : Evidence) (c : Claim) (old letters : List ℕ) → CountsTo plan (Unpredictable e) old letters → SameClaim e c → (r : Checked) → Checks plan c letters r → r ≡ Yes

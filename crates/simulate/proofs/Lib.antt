@@ -1,0 +1,7 @@
+pub mod Sets
+pub mod Longest
+pub mod Positions
+pub mod Endings
+pub mod Minimality
+pub mod Lent
+pub mod Naming

@@ -1,0 +1,54 @@
+-- The verdict on a look-ahead word (document 01; 003, Definition 2): refusals 8 and 12, or what the word tells of a critical set.
+-- Assumes nothing.
+use Prim.Native.Nat.{ℕ}
+use mathlib.Core.Bool.{Bool, true, false, not, _||_}
+use mathlib.Core.Option.{Option, some, none}
+use mathlib.Core.Logic.{_↔_}
+use mathlib.Core.Path.{_≡_}
+use mathlib.Core.List.{List, [], _∷_, _++_}
+use Rattle.bitset.specs.Sets.{any, setOf}
+use Rattle.semiautomata.specs.Semiautomaton.{Semiautomaton}
+use Rattle.semiautomata.specs.Predictability.{Critical, member, named}
+use Rattle.semiautomata.specs.Walks.{spells, survivors}
+use Rattle.semiautomata.specs.Selectors.{Survives, MinimalSelector, MaximalNonselector, minimalSelector, maximalNonselector}
+use Rattle.semiautomata.specs.Calls.{lowest}
+use Rattle.table.specs.Table.{lettersOf, tableMeaning, unfit}
+use Rattle.simulate.specs.Walking.{letterOff, Stands}
+use Rattle.simulate.specs.declared.Verdict.{Verdict}
+use Rattle.simulate.specs.declared.Judged.{Judged}
+use Rattle.simulate.specs.declared.Judged.the-variants.{Told, Refused}
+
+-- 12: the numbers name no critical set, or some letter of the word is not below m.
+abbrev pub unnamed : Option Critical → Bool
+unnamed (some T) = false
+unnamed none = true
+
+unfoldable pub verdictRefusal : List ℕ → ℕ → ℕ → List ℕ → ℕ
+verdictRefusal table q a word =
+    lowest
+    (record { number = 8; applies = unfit table }
+    ∷ record { number = 12; applies = unnamed (named (tableMeaning table) q a) || letterOff (lettersOf table) word }
+    ∷ [])
+
+-- The states of T that can walk the word, whether it is a minimal selector in T, and the states of which it is a maximal nonselector.
+pub record Tells (S : Semiautomaton) (T : Critical) (word : List ℕ) (v : Verdict) : Type 0 where
+  pub survivors : Stands (S .n) (Survives S (member S T) word) (v .survivors)
+  pub minimal : (v .minimal ≡ true) ↔ MinimalSelector S (member S T) word
+  pub nonselected : Stands (S .n) (MaximalNonselector S (member S T) word) (v .nonselected)
+
+abbrev pub Judges : List ℕ → ℕ → ℕ → List ℕ → Judged → Type 0
+Judges table q a word (Refused r) = (r ≡ verdictRefusal table q a word) × ¬ (r ≡ 0)
+Judges table q a word (Told v) =
+    (verdictRefusal table q a word ≡ 0) × ((T : Critical) → named (tableMeaning table) q a ≡ some T → Tells (tableMeaning table) T word v)
+
+-- THE SAME AS TESTS THAT COMPUTE
+
+-- no longer word that begins with w is in R(t)
+abbrev pub ends : Semiautomaton → List ℕ → ℕ → Bool
+ends S w t = not (any (S .m) (λ a. spells S (w ++ (a ∷ [])) t))
+
+-- the verdict on a word for the states of X
+pub record Computes (S : Semiautomaton) (X : ℕ → Bool) (word : List ℕ) (v : Verdict) : Type 0 where
+  pub survivors : v .survivors ≡ setOf (S .n) (survivors S X word)
+  pub minimal : v .minimal ≡ minimalSelector S X word
+  pub nonselected : v .nonselected ≡ setOf (S .n) (maximalNonselector S X word)

@@ -1,0 +1,175 @@
+// Whole walks on a prepared table, and verdicts on look-ahead words (document 01, Walks; Verdict on a look-ahead word).
+// Both judge what they are lent first; the walking itself is crate table's.
+ghost use mathlib.Core.Path.{_≡_};
+ghost use mathlib.Core.Bool.{not, _&&_};
+ghost use Prim.Native.Nat.{ℕ, _^_, _<_};
+ghost use Rattle.bitset.specs.Sets.{any, has, setOf};
+ghost use Rattle.semiautomata.specs.Walks.{step, longest};
+ghost use Rattle.semiautomata.specs.Successors.{successors, Fit};
+ghost use Rattle.table.specs.Walking.{Letters};
+ghost use Rattle.simulate.specs.Walking.{letterOff, Walks};
+ghost use Rattle.simulate.specs.Verdicts.{ends, Computes, Judges};
+
+// What a whole walk answers: the length of its longest beginning on the plan, or a refusal.
+pub enum Walked {
+    Upto(usize),
+    Refused(u8),
+}
+
+// What a look-ahead word tells of a critical set: its states that can walk the word, whether the word is a minimal selector, and the
+// states of which it is a maximal nonselector.
+pub struct Verdict {
+    pub survivors: u64,
+    pub minimal: bool,
+    pub nonselected: u64,
+}
+
+pub enum Judged {
+    Told(Verdict),
+    Refused(u8),
+}
+
+// Whether some letter of the word is not below m.
+fn letter_off(word: &[u8], m: u64) -> bool
+    ensures { λ r. ⌜ r ≡ letterOff m (now (word .entry)) ⌝ }
+{
+    let mut off = false;
+    for i in 0..word.len() {
+        off = off | (m <= word[i] as u64);
+    }
+    off
+}
+
+// How many letters of the word can be walked from a set that is not empty.
+fn longest_walked(sets: &[u64], n: usize, m: usize, starts: u64, word: &[u8]) -> usize
+    requires { ⌜ Fit n m (now sets) × (starts < 2 ^ n) × (0 < starts) × Letters m (now word) ⌝ }
+    ensures { λ r. ⌜ r ≡ longest (successors n m starts (now (sets .entry))) (now (word .entry)) ⌝ }
+{
+    let mut here = starts;
+    let mut g: usize = 0;
+    while g < word.len() {
+        let next = table::gather(sets, n, m, here, word[g] as usize);
+        if next.set == 0 {
+            return g;
+        }
+        here = next.set;
+        g += 1;
+    }
+    g
+}
+
+// A whole walk: g, and the possible states at positions 0 to g into the lent numbers.
+pub fn walk(table: &[u64], word: &[u8], out: &mut [u64]) -> Walked
+    ensures { λ r. ⌜ Walks (now (table .entry)) (now (word .entry)) r (now (out .entry)) (now (out .exit)) ⌝ }
+{
+    if table::is_unfit(table) {
+        return Walked::Refused(8);
+    }
+    if out.len() <= word.len() {
+        return Walked::Refused(9);
+    }
+    let m = table[1];
+    if letter_off(word, m) {
+        return Walked::Refused(12);
+    }
+    let starts = table[3];
+    if starts == 0 {
+        return Walked::Refused(13);
+    }
+    let n = table[0] as usize;
+    let sets = &table[4..];
+    let g = longest_walked(sets, n, m as usize, starts, word);
+    table::trace(sets, n, m as usize, starts, &word[..g], out);
+    Walked::Upto(g)
+}
+
+// Whether no letter leads anywhere from a set.
+fn stuck(sets: &[u64], n: usize, m: usize, set: u64) -> bool
+    requires { ⌜ Fit n m (now sets) × (set < 2 ^ n) ⌝ }
+    ensures { λ r. ⌜ ((starts : ℕ) → r ≡ not (any m (λ a. any n (step (successors n m starts (now (sets .entry))) (has set) a)))) ⌝ }
+{
+    for letter in 0..m {
+        let next = table::gather(sets, n, m, set, letter);
+        if next.set != 0 {
+            return false;
+        }
+    }
+    true
+}
+
+// The members of a set that can walk no longer word that begins with this one.
+fn ending(sets: &[u64], n: usize, m: usize, set: u64, word: &[u8]) -> u64
+    requires { ⌜ Fit n m (now sets) × (set < 2 ^ n) × Letters m (now word) ⌝ }
+    ensures { λ r. ⌜ ((starts : ℕ) → r ≡ setOf n (λ t. has set t && ends (successors n m starts (now (sets .entry))) (now (word .entry)) t)) ⌝ }
+{
+    let mut out: u64 = 0;
+    let mut rest = set;
+    while rest != 0 {
+        let member: u64 = 1 << u64::trailing_zeros(rest);
+        if stuck(sets, n, m, table::reach_by(sets, n, m, member, word)) {
+            out |= member;
+        }
+        rest &= rest - 1;
+    }
+    out
+}
+
+// The verdict on a word for the members of a set. A shorter prefix leaves no fewer members, so for a minimal selector the longest
+// proper prefix is enough to look at.
+fn judge_set(sets: &[u64], n: usize, m: usize, set: u64, word: &[u8]) -> Verdict
+    requires { ⌜ Fit n m (now sets) × (set < 2 ^ n) × Letters m (now word) ⌝ }
+    ensures { λ r. ⌜ ((starts : ℕ) → Computes (successors n m starts (now (sets .entry))) (has set) (now (word .entry)) r) ⌝ }
+{
+    let survivors = table::survivors_of(sets, n, m, set, word);
+    if u64::count_ones(survivors) > 1 {
+        return Verdict {
+            survivors,
+            minimal: false,
+            nonselected: ending(sets, n, m, survivors, word),
+        };
+    }
+    if u64::count_ones(survivors) == 0 {
+        return Verdict {
+            survivors,
+            minimal: false,
+            nonselected: 0,
+        };
+    }
+    if word.len() == 0 {
+        return Verdict {
+            survivors,
+            minimal: true,
+            nonselected: 0,
+        };
+    }
+    let last = word.len() - 1;
+    let before = table::survivors_of(sets, n, m, set, &word[..last]);
+    Verdict {
+        survivors,
+        minimal: u64::count_ones(before) != 1,
+        nonselected: 0,
+    }
+}
+
+// The verdict on a word for the critical set that a state and a letter name; 255 and 0 name the initial states.
+pub fn judge(table: &[u64], state: u32, letter: u32, word: &[u8]) -> Judged
+    ensures { λ r. ⌜ Judges (now (table .entry)) state letter (now (word .entry)) r ⌝ }
+{
+    if table::is_unfit(table) {
+        return Judged::Refused(8);
+    }
+    let n = table[0];
+    let m = table[1];
+    if letter_off(word, m) {
+        return Judged::Refused(12);
+    }
+    let sets = &table[4..];
+    if (state == 255) & (letter == 0) {
+        return Judged::Told(judge_set(sets, n as usize, m as usize, table[3], word));
+    }
+    if ((state as u64) < n) & ((letter as u64) < m) {
+        let set = sets[state as usize * m as usize + letter as usize];
+        return Judged::Told(judge_set(sets, n as usize, m as usize, set, word));
+    }
+    Judged::Refused(12)
+}
