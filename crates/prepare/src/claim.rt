@@ -89,11 +89,11 @@ fn is_true(sets: &[u64], n: usize, m: usize, starts: u64, claim: Claim, letters:
         return false;
     }
     let stem = claim.stem as usize;
-    let all = claim.stem as u64 + claim.cycle as u64;
-    if (claim.cycle == 0) | (((n * n) as u64) < all) | ((letters.len() as u64) < all) {
+    let cycle = claim.cycle as usize;
+    let end = stem + cycle;
+    if (cycle == 0) | (n * n < end) | (letters.len() < end) {
         return false;
     }
-    let end = all as usize;
     if !letters_below(&letters[..end], m) {
         return false;
     }

@@ -41,27 +41,24 @@ returns c =
 cast-stem : tie.Need-cast-stem
 cast-stem c = search needs
 
-cast-all : tie.Need-cast-all
-cast-all c = search needs
+cast-cycle : tie.Need-cast-cycle
+cast-cycle c = search needs
 
-cast-all-2 : tie.Need-cast-all-2
-cast-all-2 c = search needs
-
-add-all : tie.Need-add-all
-add-all c = search needs
+add-end : tie.Need-add-end
+add-end c = search needs
 
 mul-if2 : tie.Need-mul-if2
-mul-if2 c = let f = c .before .before .before .before .before .before .before .before .before .before .pre .0 .states in omega (arith, mul-le-mul f f)
+mul-if2 c = let f = c .before .before .before .before .before .before .before .before .pre .0 .states in omega (arith, mul-le-mul f f)
 
 returns-2 : tie.Need-returns-2
 returns-2 c =
-    let s = c .before .before .before .before .before .before .before .before .before .before .before in (
+    let s = c .before .before .before .before .before .before .before .before .before in (
       λ e. absurd (false≢true e),
       λ _ k. true≢false (sym (c .if2 .taken) ∙ claimed-lengths (within s) (s .args .claim) _ k),
     )
 
 abbrev start : tie.Else2 → tie.Start
-start c = c .before .before .before .before .before .before .before .before .before .before .before
+start c = c .before .before .before .before .before .before .before .before .before
 
 there : (c : tie.Else2) → start c .args .claim .stem + start c .args .claim .cycle ≤ length (now (start c .args .letters))
 there c = lengths-there (start c .args .n) (start c .args .claim) (now (start c .args .letters)) (c .if2 .left)
@@ -84,7 +81,7 @@ stem-long c = sym (stem-length (start c .args .claim) (now (start c .args .lette
 
 both-lt : (c : tie.Else2) → (start c .args .claim .low < start c .args .n) × (start c .args .claim .high < start c .args .n)
 both-lt c =
-    let e = c .before .before .before .before .before in
+    let e = c .before .before .before in
     let s = start c in
     states-lt (within s) (s .args .claim) (now (s .args .letters)) (e .before .before .before .set-named .ensures) (e .before .before .contains .ensures) (e .before .contains2 .ensures) (e .if1 .left)
 
@@ -131,7 +128,7 @@ has-lasso-requires-2 c κs =
 returns-4 : tie.Need-returns-4
 returns-4 c =
     let t = c .before .before .before .before .before .before .before .before .before in
-    let e = t .before .before .before .before .before in
+    let e = t .before .before .before in
     let s = start t in
     claimed-answer (within s) (s .args .claim) (now (s .args .letters)) (e .before .before .before .set-named .ensures) (e .before .before .contains .ensures) (e .before .contains2 .ensures)
     (e .if1 .left) (t .if2 .left) (c .before .before .before .has-lasso .ensures (s .args .starts)) (c .has-lasso2 .ensures (s .args .starts))
@@ -145,9 +142,8 @@ is-true-spec =
     contains-requires-2
     returns
     cast-stem
-    cast-all
-    cast-all-2
-    add-all
+    cast-cycle
+    add-end
     mul-if2
     returns-2
     slice-aggregate-letters-below
