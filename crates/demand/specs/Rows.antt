@@ -13,9 +13,10 @@ use Rattle.semiautomata.specs.Walks.{Longest, PossibleAt}
 use Rattle.semiautomata.specs.Calls.{refused}
 use Rattle.semiautomata.specs.Plans.{Holds}
 use Rattle.plan.specs.Bytes.{headerOf, meaning, WellFormed}
+use Rattle.table.specs.Table.{setsFrom}
 use Rattle.prepare.specs.declared.Prepared.{Prepared}
 use Rattle.prepare.specs.declared.Prepared.the-variants.{Ready}
-use Rattle.prepare.specs.Preparing.{CountsTo, Draws, refusalOf}
+use Rattle.prepare.specs.Preparing.{Prepares, CountsTo, Draws, refusalOf}
 use Rattle.simulate.specs.declared.Verdict.{Verdict}
 use Rattle.simulate.specs.Walking.{Stands}
 use Rattle.simulate.specs.Verdicts.{Tells}
@@ -37,7 +38,7 @@ pub record Row : Type 0 where
   pub lookahead : Option ℕ
   pub sayings : List Saying
 
--- What the count call answers, and the number that the drawing program gets.
+-- What preparing and the count call answer, and the number that the drawing program gets.
 abbrev pub Replied : Option ℕ → Prepared → Type 0
 Replied (some k) r = r ≡ Ready k
 Replied none r = refusalOf r ≡ 15
@@ -65,6 +66,7 @@ pub record RowHolds (r : Row) : Type 0 where
   pub well-formed : WellFormed (r .plan)
   pub holds : Holds (meaning (r .plan)) (r .lookahead)
   pub counted : (a : Prepared) (old letters : List ℕ) → headerOf (r .plan) .n * headerOf (r .plan) .n ≤ length old → CountsTo (r .plan) a old letters → Replied (r .lookahead) a
+  pub prepared : (a : Prepared) (old table old′ letters : List ℕ) → setsFrom + headerOf (r .plan) .n * headerOf (r .plan) .m ≤ length old → headerOf (r .plan) .n * headerOf (r .plan) .n ≤ length old′ → Prepares (r .plan) a old table old′ letters → Replied (r .lookahead) a
   pub drew : (x : ℕ) → Draws (r .plan) x → x ≡ drawn (r .lookahead)
   pub so : AllSo (r .plan) (r .sayings)
 

@@ -104,13 +104,19 @@ module _ (plan : List ℕ) where
         pub prepare-clear : {letters : ℕ} → n * n ≤ letters → prepareRefusal plan table letters ≡ 0
         prepare-clear {letters} g = prepare-well w table letters ∙ rw (enough, le-ltb letters (headerOf plan .n * headerOf plan .n) (rw en at g))
 
-  -- a count that is not refused is of a well-formed plan
-  pub count-passes : (size : ℕ) → countRefusal plan size ≡ 0 → WellFormed plan
-  count-passes size e = go (decided (eqb (refusal plan) 0))
+  -- what is not refused is of a well-formed plan
+  passes : {r : ℕ} → (¬ (refusal plan ≡ 0) → r ≡ refusal plan) → r ≡ 0 → WellFormed plan
+  passes ill e = go (decided (eqb (refusal plan) 0))
     where
       go : (eqb (refusal plan) 0 ≡ true) ⊎ (eqb (refusal plan) 0 ≡ false) → WellFormed plan
       go (inl q) = eqb-true (refusal plan) 0 q
-      go (inr q) = sym (count-unwell (eqb-false (refusal plan) 0 q) size) ∙ e
+      go (inr q) = sym (ill (eqb-false (refusal plan) 0 q)) ∙ e
+
+  pub count-passes : (letters : ℕ) → countRefusal plan letters ≡ 0 → WellFormed plan
+  count-passes letters = passes λ n. count-unwell n letters
+
+  pub prepare-passes : (table letters : ℕ) → prepareRefusal plan table letters ≡ 0 → WellFormed plan
+  prepare-passes table letters = passes λ n. prepare-unwell n table letters
 
   -- with 4,096 letters, what is refused is refused by the reader
   pub count-refuses : {r : ℕ} → r ≡ countRefusal plan 4096 → ¬ (r ≡ 0) → (r ≡ refusal plan) × ¬ (refusal plan ≡ 0)

@@ -2,24 +2,24 @@
 -- Assumes nothing.
 use Prim.Native.Nat.{ℕ}
 use mathlib.Core.Path.{_≡_, refl, _∙_}
+use mathlib.Core.Logic.{inl, inr}
 use mathlib.Core.List.{List}
-use lib.ListN.{length}
 use Rattle.semiautomata.proofs.Shares.{lookahead-unique, lookahead-predicts}
 use Rattle.semiautomata.proofs.Bound.{lookahead-bound, lookahead-bound-one}
 use Rattle.semiautomata.proofs.Decide.{witness-unpredictable}
 use Rattle.semiautomata.specs.Semiautomaton.{Semiautomaton}
-use Rattle.semiautomata.specs.Predictability.{Unpredictable}
-use Rattle.plan.specs.Bytes.{meaning}
+use Rattle.semiautomata.specs.Predictability.{Lookahead, Unpredictable}
+use Rattle.plan.specs.Bytes.{meaning, WellFormed}
 use Rattle.plan.proofs.Refusals.{well-formed-within}
 use Rattle.lookahead.specs.declared.Evidence.{Evidence}
 use Rattle.prepare.specs.declared.Prepared.the-variants as prepared
 use Rattle.prepare.specs.declared.claim.Claim.{Claim}
 use Rattle.prepare.specs.declared.claim.Checked.{Checked}
 use Rattle.prepare.specs.declared.claim.Checked.the-variants.{Yes, No, Refused}
-use Rattle.prepare.specs.Preparing.{Shown, CountsTo}
+use Rattle.prepare.specs.Preparing.{Shown}
 use Rattle.prepare.specs.Checking.{TrueOf, Checks}
-use Rattle.prepare.specs.Theorems.{SameClaim, Theorems}
-use Rattle.prepare.proofs.Refusals.{count-passes}
+use Rattle.prepare.specs.Theorems.{SameClaim, Answers, Theorems}
+use Rattle.prepare.proofs.Refusals.{count-passes, prepare-passes}
 
 -- evidence shown tells that there is no look-ahead
 pub shown-never : {S : Semiautomaton} {e : Evidence} {old letters : List ℕ} → Shown S e old letters → Unpredictable S
@@ -29,19 +29,28 @@ shown-never {S} s = witness-unpredictable S _ (s .claimed .witness)
 true-of : {S : Semiautomaton} {e : Evidence} {c : Claim} {old letters : List ℕ} → Shown S e old letters → SameClaim e c → TrueOf S c letters
 true-of s q = rw (q .state, q .letter, q .low, q .high, q .stem, q .cycle) (s .claimed)
 
-passes : (plan : List ℕ) (e : Evidence) (c : Claim) (old letters : List ℕ) → CountsTo plan (prepared.Unpredictable e) old letters → SameClaim e c → (r : Checked) → Checks plan c letters r → r ≡ Yes
-passes plan e c old letters (p, s) q (Refused r) (a, n) = absurd (n (a ∙ count-passes plan (length old) p))
-passes plan e c old letters (p, s) q Yes _ = refl
-passes plan e c old letters (p, s) q No (_, n) = absurd (n (true-of s q))
+-- what an answer tells, whichever call gave it
+module _ (plan : List ℕ) {old letters : List ℕ} where
+  pub ready : {k : ℕ} → Answers plan (prepared.Ready k) old letters → WellFormed plan × Lookahead (meaning plan) k
+  ready (inl (p, a, _)) = (count-passes plan _ p, a)
+  ready (inr (_, _, (p, a, _, _))) = (prepare-passes plan _ _ p, a)
+
+  pub never : {e : Evidence} → Answers plan (prepared.Unpredictable e) old letters → WellFormed plan × Shown (meaning plan) e old letters
+  never (inl (p, s)) = (count-passes plan _ p, s)
+  never (inr (_, _, (p, s, _))) = (prepare-passes plan _ _ p, s)
+
+passes : (plan : List ℕ) (e : Evidence) (c : Claim) (old letters : List ℕ) → Answers plan (prepared.Unpredictable e) old letters → SameClaim e c → (r : Checked) → Checks plan c letters r → r ≡ Yes
+passes plan e c old letters s q (Refused r) (a, n) = absurd (n (a ∙ never plan s .0))
+passes plan e c old letters s q Yes _ = refl
+passes plan e c old letters s q No (_, n) = absurd (n (true-of (never plan s .1) q))
 
 pub theorems : (plan : List ℕ) → Theorems plan
 theorems plan = record {
-  same-k = λ k j old table old′ letters old″ letters′ (_, a, _, _) (_, b, _). lookahead-unique b a;
-  not-never = λ k e old table old′ letters old″ letters′ (_, a, _, _) (_, s). lookahead-predicts a (shown-never s);
-  not-ready = λ k e old table old′ letters old″ letters′ (_, s, _) (_, a, _). lookahead-predicts a (shown-never s);
-  never-so = λ e old letters (_, s). shown-never s;
-  ready-so = λ k old letters (_, a, _). lookahead-predicts a;
-  bound = λ k old letters (p, a, _). lookahead-bound (meaning plan) (well-formed-within plan (count-passes plan (length old) p)) k a;
-  bound-one-letter = λ one k old letters (p, a, _). lookahead-bound-one (meaning plan) (well-formed-within plan (count-passes plan (length old) p)) one k a;
+  same-k = λ k j old letters old′ letters′ a b. lookahead-unique (ready plan b .1) (ready plan a .1);
+  not-both = λ k e old letters old′ letters′ a s. lookahead-predicts (ready plan a .1) (shown-never (never plan s .1));
+  never-so = λ e old letters s. shown-never (never plan s .1);
+  ready-so = λ k old letters a. lookahead-predicts (ready plan a .1);
+  bound = λ k old letters a. lookahead-bound (meaning plan) (well-formed-within plan (ready plan a .0)) k (ready plan a .1);
+  bound-one-letter = λ one k old letters a. lookahead-bound-one (meaning plan) (well-formed-within plan (ready plan a .0)) one k (ready plan a .1);
   evidence-passes = passes plan;
 }
