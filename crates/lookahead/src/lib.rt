@@ -13,12 +13,12 @@ ghost use Rattle.lookahead.specs.Answers.{Answers};
 // The evidence that there is no look-ahead: the critical set by a state and a letter (255 and 0 for the initial states), two states of
 // it, the lower first, and how many letters lead in and how many go round.
 pub struct Evidence {
-    pub state: usize,
-    pub letter: usize,
-    pub low: usize,
-    pub high: usize,
-    pub stem: usize,
-    pub cycle: usize,
+    pub state: u32,
+    pub letter: u32,
+    pub low: u32,
+    pub high: u32,
+    pub stem: u32,
+    pub cycle: u32,
 }
 
 pub enum Answer {

@@ -23,8 +23,8 @@ fn has_both(set: u64, s: usize, t: usize) -> bool
 
 // A critical set by a state and a letter, 255 and 0 for the initial states.
 pub struct Name {
-    pub state: usize,
-    pub letter: usize,
+    pub state: u32,
+    pub letter: u32,
 }
 
 pub fn critical_set(sets: &[u64], n: usize, m: usize, starts: u64, s: usize, t: usize) -> Name
@@ -39,8 +39,8 @@ pub fn critical_set(sets: &[u64], n: usize, m: usize, starts: u64, s: usize, t: 
     }
     for i in 0..n * m {
         if has_both(sets[i], s, t) {
-            let state = i / m;
-            let letter = i % m;
+            let state = (i / m) as u32;
+            let letter = (i % m) as u32;
             return Name { state, letter };
         }
     }
@@ -86,9 +86,9 @@ pub fn evidence(
     Evidence {
         state: set.state,
         letter: set.letter,
-        low,
-        high,
-        stem,
-        cycle,
+        low: low as u32,
+        high: high as u32,
+        stem: stem as u32,
+        cycle: cycle as u32,
     }
 }

@@ -32,8 +32,9 @@ use Rattle.plan.specs.Bytes.{headerOf, meaning, refusal, WellFormed, counts, re
 use Rattle.plan.specs.Loading.{Loaded}
 use Rattle.plan.proofs.Refusals.{well-formed-range}
 use Rattle.plan.proofs.Loading.{room}
-use Rattle.prepare.specs.declared.claim.Claim.{Claim}
-use Rattle.prepare.specs.Checking.{TrueOf, NamedSet, LedBack, Loops}
+use Rattle.lookahead.specs.declared.Evidence.{Evidence}
+use Rattle.lookahead.specs.Answers.{TrueOf}
+use Rattle.prepare.specs.Checking.{NamedSet, LedBack, Loops}
 
 or-none : (a b : Bool) → (a || b) ≡ false → (a ≡ false) × (b ≡ false)
 or-none true b e = absurd (true≢false e)
@@ -189,17 +190,17 @@ module _ {S : Semiautomaton} {q a set : ℕ} (N : NamedSet S q a set) where
       go (some T) d = (T, d)
 
 -- the states are out of order, or one is no member; the lengths are none, too many or past the letters
-abbrev statesOff : Claim → Bool → Bool → Bool
+abbrev statesOff : Evidence → Bool → Bool → Bool
 statesOff k low high = (leb (k .high) (k .low) || not low) || not high
 
-abbrev lengthsOff : ℕ → Claim → List ℕ → Bool
+abbrev lengthsOff : ℕ → Evidence → List ℕ → Bool
 lengthsOff n k letters = (eqb (k .cycle) 0 || ltb (n * n) (k .stem + k .cycle)) || ltb (length letters) (k .stem + k .cycle)
 
 -- the letters do not end before the lengths do
-pub lengths-there : (n : ℕ) (k : Claim) (letters : List ℕ) → lengthsOff n k letters ≡ false → k .stem + k .cycle ≤ length letters
+pub lengths-there : (n : ℕ) (k : Evidence) (letters : List ℕ) → lengthsOff n k letters ≡ false → k .stem + k .cycle ≤ length letters
 lengths-there n k letters e = ltb-false (length letters) (k .stem + k .cycle) (or-none (eqb (k .cycle) 0 || ltb (n * n) (k .stem + k .cycle)) _ e .1)
 
-module _ (k : Claim) (letters : List ℕ) (h : k .stem + k .cycle ≤ length letters) where
+module _ (k : Evidence) (letters : List ℕ) (h : k .stem + k .cycle ≤ length letters) where
   pub stem-length : length (take (k .stem) letters) ≡ k .stem
   stem-length = length-take-le (k .stem) letters (omega arith)
 
@@ -214,7 +215,7 @@ module _ (k : Claim) (letters : List ℕ) (h : k .stem + k .cycle ≤ length let
     part-letters (k .stem + k .cycle) letters l h (k .stem) (k .stem + k .cycle - k .stem) (omega arith),
   )
 
-module _ {S : Semiautomaton} (W : Within S) (k : Claim) (letters : List ℕ) where
+module _ {S : Semiautomaton} (W : Within S) (k : Evidence) (letters : List ℕ) where
   pub claimed-lengths : TrueOf S k letters → lengthsOff (S .n) k letters ≡ false
   claimed-lengths c =
       let x = stem-length k letters (c .there) in
@@ -326,8 +327,8 @@ module _ {plan : List ℕ} {n m : ℕ} (i : Read plan n m) where
     read-means : successors n m starts sets ≡ meaning plan
     read-means = rw (i .n-is, i .m-is) (l .means)
 
-    pub read-yes : {k : Claim} {letters : List ℕ} → TrueOf (successors n m starts sets) k letters → TrueOf (meaning plan) k letters
+    pub read-yes : {k : Evidence} {letters : List ℕ} → TrueOf (successors n m starts sets) k letters → TrueOf (meaning plan) k letters
     read-yes {k} {letters} c = subst (λ (S : Semiautomaton). TrueOf S k letters) read-means c
 
-    pub read-no : {k : Claim} {letters : List ℕ} → ¬ TrueOf (successors n m starts sets) k letters → ¬ TrueOf (meaning plan) k letters
+    pub read-no : {k : Evidence} {letters : List ℕ} → ¬ TrueOf (successors n m starts sets) k letters → ¬ TrueOf (meaning plan) k letters
     read-no {k} {letters} f c = f (subst (λ (S : Semiautomaton). TrueOf S k letters) (sym read-means) c)

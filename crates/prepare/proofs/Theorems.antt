@@ -13,21 +13,16 @@ use Rattle.plan.specs.Bytes.{meaning, WellFormed}
 use Rattle.plan.proofs.Refusals.{well-formed-within}
 use Rattle.lookahead.specs.declared.Evidence.{Evidence}
 use Rattle.prepare.specs.declared.Prepared.the-variants as prepared
-use Rattle.prepare.specs.declared.claim.Claim.{Claim}
 use Rattle.prepare.specs.declared.claim.Checked.{Checked}
 use Rattle.prepare.specs.declared.claim.Checked.the-variants.{Yes, No, Refused}
 use Rattle.prepare.specs.Preparing.{Shown}
-use Rattle.prepare.specs.Checking.{TrueOf, Checks}
-use Rattle.prepare.specs.Theorems.{SameClaim, Answers, Theorems}
+use Rattle.prepare.specs.Checking.{Checks}
+use Rattle.prepare.specs.Theorems.{Answers, Theorems}
 use Rattle.prepare.proofs.Refusals.{count-passes, prepare-passes}
 
 -- evidence shown tells that there is no look-ahead
 pub shown-never : {S : Semiautomaton} {e : Evidence} {old letters : List ℕ} → Shown S e old letters → Unpredictable S
 shown-never {S} s = witness-unpredictable S _ (s .claimed .witness)
-
--- a claim that hands on the numbers of evidence shown is true
-true-of : {S : Semiautomaton} {e : Evidence} {c : Claim} {old letters : List ℕ} → Shown S e old letters → SameClaim e c → TrueOf S c letters
-true-of s q = rw (q .state, q .letter, q .low, q .high, q .stem, q .cycle) (s .claimed)
 
 -- what an answer tells, whichever call gave it
 module _ (plan : List ℕ) {old letters : List ℕ} where
@@ -39,10 +34,10 @@ module _ (plan : List ℕ) {old letters : List ℕ} where
   never (inl (p, s)) = (count-passes plan _ p, s)
   never (inr (_, _, (p, s, _))) = (prepare-passes plan _ _ p, s)
 
-passes : (plan : List ℕ) (e : Evidence) (c : Claim) (old letters : List ℕ) → Answers plan (prepared.Unpredictable e) old letters → SameClaim e c → (r : Checked) → Checks plan c letters r → r ≡ Yes
-passes plan e c old letters s q (Refused r) (a, n) = absurd (n (a ∙ never plan s .0))
-passes plan e c old letters s q Yes _ = refl
-passes plan e c old letters s q No (_, n) = absurd (n (true-of (never plan s .1) q))
+passes : (plan : List ℕ) (e : Evidence) (old letters : List ℕ) → Answers plan (prepared.Unpredictable e) old letters → (r : Checked) → Checks plan e letters r → r ≡ Yes
+passes plan e old letters s (Refused r) (a, n) = absurd (n (a ∙ never plan s .0))
+passes plan e old letters s Yes _ = refl
+passes plan e old letters s No (_, n) = absurd (n (never plan s .1 .claimed))
 
 pub theorems : (plan : List ℕ) → Theorems plan
 theorems plan = record {

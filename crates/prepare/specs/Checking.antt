@@ -7,17 +7,14 @@ use mathlib.Core.Path.{_≡_}
 use mathlib.Core.List.{List}
 use Rattle.bitset.specs.Sets.{has, setOf}
 use Rattle.semiautomata.specs.Semiautomaton.{Semiautomaton, Path}
-use Rattle.semiautomata.specs.Predictability.{Critical, member, named, Lasso, Claimed}
+use Rattle.semiautomata.specs.Predictability.{Critical, member, named, Lasso}
 use Rattle.plan.specs.Bytes.{meaning, refusal, WellFormed}
-use Rattle.prepare.specs.declared.claim.Claim.{Claim}
+use Rattle.lookahead.specs.declared.Evidence.{Evidence}
+use Rattle.lookahead.specs.Answers.{TrueOf}
 use Rattle.prepare.specs.declared.claim.Checked.{Checked}
 use Rattle.prepare.specs.declared.claim.Checked.the-variants.{Refused, Yes, No}
 
--- The claim with these letters is true of S.
-abbrev pub TrueOf : Semiautomaton → Claim → List ℕ → Type 0
-TrueOf S c letters = Claimed S (c .state) (c .letter) (c .low) (c .high) (c .stem) (c .cycle) letters
-
-abbrev pub Checks : List ℕ → Claim → List ℕ → Checked → Type 0
+abbrev pub Checks : List ℕ → Evidence → List ℕ → Checked → Type 0
 Checks plan c letters (Refused r) = (r ≡ refusal plan) × ¬ (r ≡ 0)
 Checks plan c letters Yes = WellFormed plan × TrueOf (meaning plan) c letters
 Checks plan c letters No = WellFormed plan × ¬ TrueOf (meaning plan) c letters

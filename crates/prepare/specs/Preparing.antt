@@ -7,12 +7,13 @@ use mathlib.Core.List.{List, [], _∷_, _++_}
 use lib.Dec.{ltb}
 use lib.ListN.{length, drop}
 use Rattle.semiautomata.specs.Semiautomaton.{Semiautomaton}
-use Rattle.semiautomata.specs.Predictability.{Lookahead, Claimed}
+use Rattle.semiautomata.specs.Predictability.{Lookahead}
 use Rattle.semiautomata.specs.Predictability as predictability
 use Rattle.semiautomata.specs.Calls.{Check, lowest}
 use Rattle.plan.specs.Bytes.{headerOf, meaning, planChecks, refusal, WellFormed}
 use Rattle.table.specs.Table.{setsFrom, lookaheadOf, tableMeaning, unfit}
 use Rattle.lookahead.specs.declared.Evidence.{Evidence}
+use Rattle.lookahead.specs.Answers.{TrueOf}
 use Rattle.prepare.specs.declared.Prepared.{Prepared}
 use Rattle.prepare.specs.declared.Prepared.the-variants.{Ready, Refused, Unpredictable}
 
@@ -42,7 +43,7 @@ pub record Tabled (S : Semiautomaton) (k : ℕ) (old table : List ℕ) : Type 0 
 
 -- The evidence is a true claim with the letters now lent, of which those past its lengths are kept.
 pub record Shown (S : Semiautomaton) (e : Evidence) (old letters : List ℕ) : Type 0 where
-  pub claimed : Claimed S (e .state) (e .letter) (e .low) (e .high) (e .stem) (e .cycle) letters
+  pub claimed : TrueOf S e letters
   pub kept : drop (e .stem + e .cycle) letters ≡ drop (e .stem + e .cycle) old
 
 -- What preparing gives. A refusal is its number and writes nothing; k comes with the table, the letters untouched; where there is none,

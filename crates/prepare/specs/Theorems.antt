@@ -9,20 +9,10 @@ use Rattle.plan.specs.Bytes.{headerOf, meaning}
 use Rattle.lookahead.specs.declared.Evidence.{Evidence}
 use Rattle.prepare.specs.declared.Prepared.{Prepared}
 use Rattle.prepare.specs.declared.Prepared.the-variants.{Ready, Unpredictable}
-use Rattle.prepare.specs.declared.claim.Claim.{Claim}
 use Rattle.prepare.specs.declared.claim.Checked.{Checked}
 use Rattle.prepare.specs.declared.claim.Checked.the-variants.{Yes}
 use Rattle.prepare.specs.Preparing.{Prepares, CountsTo}
 use Rattle.prepare.specs.Checking.{Checks}
-
--- The claim hands on the numbers of the evidence.
-pub record SameClaim (e : Evidence) (c : Claim) : Type 0 where
-  pub state : c .state ≡ e .state
-  pub letter : c .letter ≡ e .letter
-  pub low : c .low ≡ e .low
-  pub high : c .high ≡ e .high
-  pub stem : c .stem ≡ e .stem
-  pub cycle : c .cycle ≡ e .cycle
 
 -- Preparing or the count call gives this answer and leaves these letters; which numbers preparing was lent does not matter here.
 abbrev pub Answers : List ℕ → Prepared → List ℕ → List ℕ → Type 0
@@ -39,4 +29,4 @@ pub record Theorems (plan : List ℕ) : Type 0 where
   pub bound : (k : ℕ) (old letters : List ℕ) → Answers plan (Ready k) old letters → k ≤ headerOf plan .n * (headerOf plan .n - 1) / 2
   pub bound-one-letter : headerOf plan .m ≡ 1 → (k : ℕ) (old letters : List ℕ) → Answers plan (Ready k) old letters → k ≤ headerOf plan .n - 1
   -- the evidence that is answered passes the check
-  pub evidence-passes : (e : Evidence) (c : Claim) (old letters : List ℕ) → Answers plan (Unpredictable e) old letters → SameClaim e c → (r : Checked) → Checks plan c letters r → r ≡ Yes
+  pub evidence-passes : (e : Evidence) (old letters : List ℕ) → Answers plan (Unpredictable e) old letters → (r : Checked) → Checks plan e letters r → r ≡ Yes

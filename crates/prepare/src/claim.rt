@@ -4,19 +4,10 @@ ghost use mathlib.Core.Bool.{true, false};
 ghost use Prim.Native.Nat.{ℕ, _^_, _<_};
 ghost use Rattle.semiautomata.specs.Successors.{successors, Fit};
 ghost use Rattle.table.specs.Walking.{Letters};
-ghost use Rattle.prepare.specs.Checking.{Checks, TrueOf, LedBack, Loops, NamedSet};
+ghost use Rattle.lookahead.specs.Answers.{TrueOf};
+ghost use Rattle.prepare.specs.Checking.{Checks, LedBack, Loops, NamedSet};
+use lookahead::Evidence;
 use plan::Reading;
-
-// A critical set by a state and a letter (255 and 0 for the initial states), two states of it, and how many of the letters lead in and
-// how many go round.
-pub struct Claim {
-    pub state: u32,
-    pub letter: u32,
-    pub low: u32,
-    pub high: u32,
-    pub stem: u32,
-    pub cycle: u32,
-}
 
 pub enum Checked {
     Yes,
@@ -78,7 +69,7 @@ fn has_lasso(sets: &[u64], n: usize, m: usize, s: u32, stem: &[u8], cycle: &[u8]
 }
 
 // The claim about sets that are loaded.
-fn is_true(sets: &[u64], n: usize, m: usize, starts: u64, claim: Claim, letters: &[u8]) -> bool
+fn is_true(sets: &[u64], n: usize, m: usize, starts: u64, claim: Evidence, letters: &[u8]) -> bool
     requires { ⌜ Fit n m (now sets) × (starts < 2 ^ n) ⌝ }
     ensures { λ r. ⌜ (r ≡ true → TrueOf (successors n m starts (now (sets .entry))) claim (now (letters .entry))) × (r ≡ false → ¬ TrueOf (successors n m starts (now (sets .entry))) claim (now (letters .entry))) ⌝ }
 {
@@ -102,7 +93,7 @@ fn is_true(sets: &[u64], n: usize, m: usize, starts: u64, claim: Claim, letters:
 }
 
 // The reader's refusal; yes if and only if the claim is true of the plan; otherwise no.
-pub fn check(plan: &[u8], claim: Claim, letters: &[u8]) -> Checked
+pub fn check(plan: &[u8], claim: Evidence, letters: &[u8]) -> Checked
     ensures { λ r. ⌜ Checks (now (plan .entry)) claim (now (letters .entry)) r ⌝ }
 {
     let reading = plan::read(plan);

@@ -10,7 +10,7 @@ use native.Mathlib.Nat.{mul-le-mul}
 use borrow.Author.Count.{below-more}
 use Rattle.semiautomata.proofs.Shares.{member-lt}
 use Rattle.semiautomata.proofs.Successors.{fit-within}
-use Rattle.lookahead.proofs.Places.{some-letter}
+use Rattle.lookahead.proofs.Places.{some-letter, state-lt, letter-lt}
 use Rattle.lookahead.proofs.Rivals.{names-initial, names-fork, together-none}
 use Rattle.lookahead.proofs.witness.critical_set.Statement.{statement}
 use Rattle.lookahead.proofs.witness.critical_set.Tie as tie
@@ -54,8 +54,14 @@ has-both-requires-2 c κs = small (c .before .before .before .before .before .be
 div-state : tie.Need-div-state Inv-loop μ-loop
 div-state c = some c
 
+cast-state : tie.Need-cast-state Inv-loop μ-loop
+cast-state c = let st = c .before .before .before .before .before .before .before .before in omega (arith, state-lt (st .args .n) (st .args .m) _ (c .before .before .before .loop-test .taken), st .pre .0 .states)
+
 rem-letter : tie.Need-rem-letter Inv-loop μ-loop
 rem-letter c = some c
+
+cast-letter : tie.Need-cast-letter Inv-loop μ-loop
+cast-letter c = let st = c .before .before .before .before .before .before .before .before in omega (arith, letter-lt (st .args .n) (st .args .m) _ (c .before .before .before .loop-test .taken), st .pre .0 .letters)
 
 returns-2 : tie.Need-returns-2 Inv-loop μ-loop
 returns-2 c =
@@ -92,7 +98,9 @@ critical-set-spec =
     shared-slice-read-has-both
     has-both-requires-2
     div-state
+    cast-state
     rem-letter
+    cast-letter
     returns-2
     add-i
     loop-less

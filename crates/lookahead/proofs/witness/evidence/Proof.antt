@@ -141,6 +141,25 @@ sub-stem c = omega (arith, c .loop-test .left)
 sub-cycle : tie.Need-sub-cycle Inv-loop μ-loop
 sub-cycle c = omega (arith, ended c .0)
 
+-- states and lengths fit
+few-states : (c : tie.After-loop Inv-loop μ-loop) → (c .before .before .before .before .before .args .low < 64) × (c .before .before .before .before .before .args .high < 64)
+few-states c = let st = c .before .before .before .before .before in (omega (arith, low-lt st, st .pre .0 .states), omega (arith, high-lt st, st .pre .0 .states))
+
+few-letters : (c : tie.After-loop Inv-loop μ-loop) → c .before .loop .i ≤ 4096
+few-letters c = omega (arith, ended c .0, ended c .1 .short, square (c .before .before .before .before .before))
+
+cast-low : tie.Need-cast-t32 Inv-loop μ-loop
+cast-low c = omega (arith, few-states c .0)
+
+cast-high : tie.Need-cast-t33 Inv-loop μ-loop
+cast-high c = omega (arith, few-states c .1)
+
+cast-stem : tie.Need-cast-t34 Inv-loop μ-loop
+cast-stem c = omega (arith, ended c .0, few-letters c)
+
+cast-cycle : tie.Need-cast-t35 Inv-loop μ-loop
+cast-cycle c = omega (arith, few-letters c)
+
 same-length : tie.Need-same-length Inv-loop μ-loop
 same-length c = c .before .loop .inv .1 .long
 
@@ -176,5 +195,9 @@ evidence-spec =
     array-read-marked
     sub-stem
     sub-cycle
+    cast-low
+    cast-high
+    cast-stem
+    cast-cycle
     same-length
     returns)
