@@ -70,6 +70,12 @@ fn say_judged(table: &[u64], state: u32, letter: u32, word: &[u8]) {
     }
 }
 
+fn say_position(position: u64, set: u64) {
+    say_number(b" at", position);
+    say(b":");
+    say_set(set);
+}
+
 // The possible states at each position of a walk of at most two letters.
 fn say_walked(table: &[u64], word: &[u8]) {
     let mut sets = [0u64; 3];
@@ -77,12 +83,12 @@ fn say_walked(table: &[u64], word: &[u8]) {
     match walked {
         Walked::Refused(r) => say_number(b" refused", r as u64),
         Walked::Upto(g) => {
-            for i in 0..3 {
-                if i <= g {
-                    say_number(b" at", i as u64);
-                    say(b":");
-                    say_set(sets[i]);
-                }
+            say_position(0, sets[0]);
+            if 1 <= g {
+                say_position(1, sets[1]);
+            }
+            if 2 <= g {
+                say_position(2, sets[2]);
             }
         }
     }
