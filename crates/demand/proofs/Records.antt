@@ -17,10 +17,10 @@ use Rattle.semiautomata.proofs.Calls.{Outcome, refuses, passes, outcome}
 use Rattle.semiautomata.proofs.Streaming.{Follows, feed-agrees}
 use Rattle.table.specs.Table.{lookaheadOf, tableMeaning, unfit}
 use Rattle.predictor.specs.declared.Answer.{Answer}
-use Rattle.predictor.specs.Bytes.{heldFrom, decode, tidy, encode}
+use Rattle.records.specs.Bytes.{heldFrom, decode, tidy, encode}
 use Rattle.predictor.specs.Replies.{said}
 use Rattle.predictor.specs.Calls.{written, onto, openedOn, fedOn}
-use Rattle.predictor.proofs.Bytes.{decode-encode, tidy-encode, length-encode}
+use Rattle.records.proofs.Bytes.{decode-encode, tidy-encode, length-encode}
 use Rattle.demand.specs.Demand.{Feeds, Feeding, none, more}
 
 -- the bytes hold the record r for k

@@ -20,7 +20,7 @@ use Rattle.plan.specs.Bytes.{meaning}
 use Rattle.table.specs.Table.{statesOf, lookaheadOf, tableMeaning, unfit}
 use Rattle.table.proofs.Fitness.{Fitting, fitting}
 use Rattle.predictor.specs.declared.Answer.{Answer}
-use Rattle.predictor.specs.Bytes.{heldFrom, decode, encode}
+use Rattle.records.specs.Bytes.{heldFrom, decode, encode}
 use Rattle.predictor.specs.Replies.{said}
 use Rattle.predictor.specs.Calls.{written, onto, openedOn, fedOn, tableCheck, recordCheck, tidyCheck}
 use Rattle.demand.specs.Demand.{Made, Opens, Feeds, Feeding, Walk, Theorems}

@@ -11,7 +11,7 @@ use Rattle.plan.specs.Bytes.{meaning}
 use Rattle.prepare.specs.declared.Prepared.the-variants.{Ready}
 use Rattle.prepare.specs.Preparing.{Prepares}
 use Rattle.predictor.specs.declared.Answer.{Answer}
-use Rattle.predictor.specs.Bytes.{heldFrom}
+use Rattle.records.specs.Bytes.{heldFrom}
 use Rattle.predictor.specs.Replies.{said}
 use Rattle.predictor.specs.Calls.{openedOn, fedOn}
 

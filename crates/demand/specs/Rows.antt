@@ -21,7 +21,7 @@ use Rattle.simulate.specs.declared.Verdict.{Verdict}
 use Rattle.simulate.specs.Walking.{Stands}
 use Rattle.simulate.specs.Verdicts.{Tells}
 use Rattle.predictor.specs.declared.Answer.{Answer}
-use Rattle.predictor.specs.Bytes.{heldFrom}
+use Rattle.records.specs.Bytes.{heldFrom}
 use Rattle.predictor.specs.Replies.{said}
 use Rattle.demand.specs.Demand.{Made, Opens}
 

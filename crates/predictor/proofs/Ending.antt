@@ -17,7 +17,7 @@ use Rattle.semiautomata.specs.Streaming.{base, sound, unresolved}
 use Rattle.table.specs.Table.{lookaheadOf, tableMeaning, unfit}
 use Rattle.table.specs.Walking.{Written}
 use Rattle.table.proofs.Fitness.{Fitting, fitting-fit}
-use Rattle.predictor.specs.Bytes.{heldFrom, heldCount, decode, tidy}
+use Rattle.records.specs.Bytes.{heldFrom, heldCount, decode, tidy}
 use Rattle.predictor.specs.Calls.{endRefusal}
 use Rattle.predictor.specs.Parts.{openSets}
 use Rattle.predictor.proofs.Standing.{Standing}

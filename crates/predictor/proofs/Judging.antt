@@ -9,6 +9,7 @@ use native.Mathlib.Numerals.{add-one}
 use native.Mathlib.Omega.{arith}
 use lib.Dec.{eqb, ltb, leb}
 use lib.ListN.{length, take, drop}
+use lib.Seq.{drop-nil}
 use borrow.Author.Tests.{lt-ltb, le-ltb, le-leb, lt-leb, eqb-true, eqb-false, leb-false, ltb-true, ltb-false}
 use Rattle.bitset.specs.Sets.{any, size, has, setOf}
 use Rattle.bitset.proofs.Tests.{and-out, decided}
@@ -24,9 +25,10 @@ use Rattle.semiautomata.proofs.Computed.{reach-append, walkable-reach}
 use Rattle.semiautomata.proofs.Streaming.{length-snoc}
 use Rattle.table.specs.Walking.{Letters}
 use Rattle.table.proofs.Steps.{step-members}
-use Rattle.predictor.specs.Bytes.{heldFrom, decode, tidy, encode}
+use Rattle.records.specs.Bytes.{heldFrom, decode, tidy, encode}
 use Rattle.predictor.specs.Calls.{written, onto}
-use Rattle.predictor.specs.Parts.{resolving, opening, judged, isRefusal, lastAfter, takenInto, fedInto, openedInto, Ready}
+use Rattle.records.specs.Taking.{takenInto, startedInto}
+use Rattle.predictor.specs.Parts.{resolving, opening, judged, isRefusal, lastAfter, fedInto, openedInto, Ready}
 use Rattle.predictor.proofs.Letters.{reach-letters}
 use Rattle.predictor.proofs.Standing.{some-of, none-of, By, base-below, Standing}
 
@@ -182,11 +184,11 @@ opened-kept k bytes (resolved i x) e = absurd (false≢true e)
 opened-kept k bytes nothing e = absurd (false≢true e)
 
 pub opened-taken : (k : ℕ) (bytes : List ℕ) (reply : Reply) → isRefusal reply ≡ false
-    → encode k (record { fed = 0; last = lastAfter reply 255; held = latest k [] }) ++ drop (heldFrom + k) bytes ≡ openedInto k bytes reply
-unfolding openedInto
+    → startedInto k bytes (lastAfter reply 255) ≡ openedInto k bytes reply
+unfolding openedInto startedInto
 opened-taken k bytes (refused number) e = absurd (true≢false e)
-opened-taken k bytes (resolved i x) e = refl
-opened-taken k bytes nothing e = refl
+opened-taken k bytes (resolved i x) e = let none : latest k [] ≡ [] = drop-nil (0 - k) in rw none
+opened-taken k bytes nothing e = let none : latest k [] ≡ [] = drop-nil (0 - k) in rw none
 
 module _ (S : Semiautomaton) (k : ℕ) where
   opened-left : opened S k .state ≡ after k unopened 0 [] (opened S k .reply)

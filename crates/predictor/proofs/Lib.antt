@@ -1,6 +1,3 @@
-pub mod Copying
-pub mod Bytes
-pub mod Held
 pub mod Letters
 pub mod Standing
 pub mod Judging

@@ -25,9 +25,10 @@ use Rattle.semiautomata.proofs.Successors.{fit-within}
 use Rattle.table.specs.Table.{initialOf, tableMeaning}
 use Rattle.table.specs.Walking.{Letters}
 use Rattle.table.proofs.Fitness.{Fitting}
-use Rattle.predictor.specs.Bytes.{heldFrom, heldCount, decode, tidy}
-use Rattle.predictor.specs.Parts.{regular, baseSet, standing}
-use Rattle.predictor.proofs.Bytes.{tidy-out}
+use Rattle.records.specs.Bytes.{heldFrom, heldCount, decode, tidy}
+use Rattle.records.specs.Taking.{regular}
+use Rattle.predictor.specs.Parts.{baseSet, standing}
+use Rattle.records.proofs.Bytes.{tidy-out}
 use Rattle.predictor.proofs.Letters.{reach-letters}
 
 -- a set is empty exactly where its number is 0

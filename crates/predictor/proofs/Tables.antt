@@ -12,10 +12,10 @@ use Rattle.semiautomata.specs.Calls.{refused, Result}
 use Rattle.semiautomata.specs.Streaming.{opened}
 use Rattle.table.specs.Table.{lookaheadOf, setsFrom, setsOf, tableMeaning, unfit}
 use Rattle.table.proofs.Fitness.{Fitting, fitting-fit, pairs-le}
-use Rattle.predictor.specs.Bytes.{heldFrom}
+use Rattle.records.specs.Bytes.{heldFrom}
 use Rattle.predictor.specs.Calls.{onto, openedOn, fedOn}
 use Rattle.predictor.specs.Parts.{judged}
-use Rattle.predictor.proofs.Bytes.{part-whole}
+use Rattle.records.proofs.Bytes.{part-whole}
 
 -- a call's reply and state, from what it gives
 pub as-given : {A : Type 0} {done given : Result A} → given ≡ done → (done .reply ≡ given .reply) × (done .state ≡ given .state)

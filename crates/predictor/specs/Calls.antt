@@ -13,7 +13,7 @@ use Rattle.semiautomata.specs.Streaming.{Rec, opened, feed, finish, soundCheck}
 use Rattle.table.specs.Table.{statesOf, lookaheadOf, tableMeaning, unfit}
 use Rattle.predictor.specs.declared.Ended.{Ended}
 use Rattle.predictor.specs.declared.Ended.the-variants.{Open, Refused}
-use Rattle.predictor.specs.Bytes.{heldFrom, decode, tidy, encode}
+use Rattle.records.specs.Bytes.{heldFrom, decode, tidy, encode}
 
 -- 8, of the table; 9, of the record: fewer than 8 + k bytes; 10, of its layout.
 abbrev pub tableCheck : List ℕ → Check

@@ -1,4 +1,3 @@
-pub mod Bytes
 pub mod Replies
 pub mod Calls
 pub mod Parts

@@ -12,12 +12,8 @@ use Rattle.semiautomata.specs.Walks.{reach}
 use Rattle.semiautomata.specs.Calls.{Reply, refused, resolved, nothing, Result, checked}
 use Rattle.semiautomata.specs.PlainWalk.{limit}
 use Rattle.semiautomata.specs.Streaming.{base, rules, every, latest, after, unopened, feed, finish}
-use Rattle.predictor.specs.Bytes.{heldFrom, decode, tidy, encode}
+use Rattle.records.specs.Bytes.{heldFrom, decode, tidy, encode}
 use Rattle.predictor.specs.Calls.{written, onto}
-
--- The rules of a record as tests of its numbers.
-abbrev pub regular : ℕ → ℕ → ℕ → ℕ → ℕ → Bool
-regular n k fed last held = leb fed limit && (eqb held (min fed k) && (cond (ltb fed k) (eqb last 255) (ltb last n) && true))
 
 -- The base as a number.
 unfoldable pub baseSet : ℕ → ℕ → ℕ → ℕ → ℕ
@@ -27,10 +23,6 @@ baseSet k starts fed last = cond (ltb fed k) starts (setOf 64 (single last))
 unfoldable pub standing : Semiautomaton → ℕ → List ℕ → ℕ
 standing S k bytes =
     cond (tidy k bytes && every (rules S k (decode bytes))) (setOf (S .n) (reach S (base S k (decode bytes)) (decode bytes .held))) 0
-
--- Of letters of which h are held, once one more is taken: it is put behind them, and where k are held the oldest goes.
-unfoldable pub pushed : ℕ → ℕ → List ℕ → ℕ → List ℕ
-pushed k h letters a = drop (suc h - k) (take h letters ++ (a ∷ [])) ++ drop (suc h - (suc h - k)) letters
 
 -- A set's only state is resolved; any other set is refused with 14.
 unfoldable pub resolving : ℕ → ℕ → Reply
@@ -58,11 +50,6 @@ abbrev pub lastAfter : Reply → ℕ → ℕ
 lastAfter (refused number) last = last
 lastAfter (resolved i x) last = x
 lastAfter nothing last = last
-
--- The bytes once a letter is taken.
-unfoldable pub takenInto : ℕ → List ℕ → ℕ → ℕ → List ℕ
-takenInto k bytes a last =
-    encode k (record { fed = suc (decode bytes .fed); last = last; held = latest k (decode bytes .held ++ (a ∷ [])) }) ++ drop (heldFrom + k) bytes
 
 -- What a letter's reply, and opening's, leaves of the bytes.
 unfoldable pub fedInto : ℕ → List ℕ → ℕ → Reply → List ℕ

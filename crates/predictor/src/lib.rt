@@ -1,20 +1,18 @@
 // Walks letter by letter (document 01, Walks): a record of bytes that is opened, fed and finished on a prepared table.
 // A call is judged and decided first, by what it reads; only then is the record written, and a refused call writes nothing.
 ghost use mathlib.Core.Path.{_≡_};
-ghost use mathlib.Core.Bool.{true, not};
+ghost use mathlib.Core.Bool.{not};
 ghost use mathlib.Core.List.{[], _∷_, _++_};
-ghost use Prim.Native.Nat.{ℕ, suc, _+_, _-_, _^_, _≤_, _<_, min};
-ghost use lib.Dec.{eqb, ltb};
-ghost use lib.ListN.{length, getD, take, drop, replicate};
+ghost use Prim.Native.Nat.{ℕ, suc, _+_, _-_, _^_, _≤_, _<_};
+ghost use lib.Dec.{ltb};
+ghost use lib.ListN.{length, getD, take, drop};
 ghost use Rattle.bitset.specs.Sets.{any, has, setOf};
 ghost use Rattle.semiautomata.specs.Walks.{reach, possible};
 ghost use Rattle.semiautomata.specs.Successors.{successors, Fit};
-ghost use Rattle.semiautomata.specs.PlainWalk.{limit};
 ghost use Rattle.table.specs.Walking.{Letters};
-ghost use Rattle.predictor.specs.Bytes.{numberAt, bytesOf, heldCount, decode, tidy};
 ghost use Rattle.predictor.specs.Replies.{said};
 ghost use Rattle.predictor.specs.Calls.{openedOn, fedOn, Ends};
-ghost use Rattle.predictor.specs.Parts.{regular, baseSet, standing, pushed, resolving, judged, opening, openSets, isRefusal, lastAfter, takenInto, fedInto, openedInto, Ready};
+ghost use Rattle.predictor.specs.Parts.{baseSet, standing, resolving, judged, opening, openSets, isRefusal, lastAfter, fedInto, openedInto, Ready};
 
 // What opening and a letter fed answer: a refusal, a resolved position and its state, or that none was resolved.
 pub enum Answer {
@@ -29,75 +27,7 @@ pub enum Ended {
     Refused(u8),
 }
 
-fn wide(x: u8) -> usize
-    ensures { λ r. ⌜ (r ≡ x) × (r < 256) ⌝ }
-{
-    x as usize
-}
-
-fn lesser(a: usize, b: usize) -> usize
-    ensures { λ r. ⌜ r ≡ min a b ⌝ }
-{
-    if a < b { a } else { b }
-}
-
 // READING A RECORD
-
-fn fed_of(rec: &[u8]) -> usize
-    requires { ⌜ 8 ≤ length (now rec) ⌝ }
-    ensures { λ r. ⌜ r ≡ numberAt (now (rec .entry)) 0 4 ⌝ }
-{
-    let a = wide(rec[0]);
-    let b = wide(rec[1]);
-    let c = wide(rec[2]);
-    let d = wide(rec[3]);
-    a + 256 * (b + 256 * (c + 256 * d))
-}
-
-fn held_of(rec: &[u8]) -> usize
-    requires { ⌜ 8 ≤ length (now rec) ⌝ }
-    ensures { λ r. ⌜ r ≡ heldCount (now (rec .entry)) ⌝ }
-{
-    let a = wide(rec[6]);
-    let b = wide(rec[7]);
-    a + 256 * b
-}
-
-// Whether so many bytes from a place on are zero.
-fn is_zero(rec: &[u8], from: usize, count: usize) -> bool
-    requires { ⌜ from + count ≤ length (now rec) ⌝ }
-    ensures { λ r. ⌜ r ≡ not (any count (λ i. not (eqb (getD (now (rec .entry)) (from + i) 0) 0))) ⌝ }
-{
-    let mut zero = true;
-    for i in 0..count {
-        zero = zero & (rec[from + i] == 0);
-    }
-    zero
-}
-
-// Whether a record keeps the rules of the layout.
-fn is_tidy(rec: &[u8], k: usize) -> bool
-    requires { ⌜ 8 + k ≤ length (now rec) ⌝ }
-    ensures { λ r. ⌜ r ≡ tidy k (now (rec .entry)) ⌝ }
-{
-    let held = held_of(rec);
-    if k < held {
-        return false;
-    }
-    (rec[5] == 0) & is_zero(rec, 8 + held, k - held)
-}
-
-// Whether a record's numbers keep its rules.
-fn is_regular(n: usize, k: usize, fed: usize, last: usize, held: usize) -> bool
-    ensures { λ r. ⌜ r ≡ regular n k fed last held ⌝ }
-{
-    let counted = (fed <= 1000000) & (held == lesser(fed, k));
-    if fed < k {
-        counted & (last == 255)
-    } else {
-        counted & (last < n)
-    }
-}
 
 // The base: the initial states while fewer than k letters are taken, else the last resolved state.
 fn base_of(k: usize, starts: u64, fed: usize, last: u8) -> u64
@@ -116,7 +46,7 @@ fn are_letters(word: &[u8], m: usize) -> bool
 {
     let mut good = true;
     for i in 0..word.len() {
-        good = good & (wide(word[i]) < m);
+        good = good & (records::wide(word[i]) < m);
     }
     good
 }
@@ -138,13 +68,13 @@ fn stand(sets: &[u64], n: usize, m: usize, k: usize, starts: u64, rec: &[u8]) ->
     requires { ⌜ Fit n m (now sets) × (starts < 2 ^ n) × (8 + k ≤ length (now rec)) ⌝ }
     ensures { λ r. ⌜ r ≡ standing (successors n m starts (now (sets .entry))) k (now (rec .entry)) ⌝ }
 {
-    let fed = fed_of(rec);
-    let held = held_of(rec);
+    let fed = records::fed_of(rec);
+    let held = records::held_of(rec);
     let last = rec[4];
-    if !is_tidy(rec, k) {
+    if !records::is_tidy(rec, k) {
         return 0;
     }
-    if !is_regular(n, k, fed, wide(last), held) {
+    if !records::is_regular(n, k, fed, records::wide(last), held) {
         return 0;
     }
     let base = base_of(k, starts, fed, last);
@@ -202,11 +132,11 @@ fn decide(sets: &[u64], n: usize, m: usize, k: usize, starts: u64, rec: &[u8], l
     if here == 0 {
         return Answer::Refused(10);
     }
-    let fed = fed_of(rec);
+    let fed = records::fed_of(rec);
     if fed == 1000000 {
         return Answer::Refused(11);
     }
-    let a = wide(letter);
+    let a = records::wide(letter);
     if m <= a {
         return Answer::Refused(12);
     }
@@ -219,7 +149,7 @@ fn decide(sets: &[u64], n: usize, m: usize, k: usize, starts: u64, rec: &[u8], l
         return Answer::Nothing;
     }
     let base = base_of(k, starts, fed, rec[4]);
-    let end = 8 + held_of(rec);
+    let end = 8 + records::held_of(rec);
     let set = due(sets, n, m, k, base, &rec[8..end], letter);
     resolution(taken - k, set)
 }
@@ -263,58 +193,6 @@ fn last_after(answer: Answer, last: u8) -> u8
     }
 }
 
-// The numbers of a record, bytes 0 to 7.
-fn write_numbers(rec: &mut [u8], fed: usize, last: u8, held: usize)
-    requires { ⌜ 8 ≤ length (now rec) ⌝ }
-    ensures { λ _. ⌜ now (rec .exit) ≡ bytesOf 4 fed ++ (last ∷ 0 ∷ bytesOf 2 held ++ drop 8 (now (rec .entry))) ⌝ }
-{
-    rec[0] = (fed % 256) as u8;
-    rec[1] = (fed / 256 % 256) as u8;
-    rec[2] = (fed / 256 / 256 % 256) as u8;
-    rec[3] = (fed / 256 / 256 / 256 % 256) as u8;
-    rec[4] = last;
-    rec[5] = 0;
-    rec[6] = (held % 256) as u8;
-    rec[7] = (held / 256 % 256) as u8;
-}
-
-// All k letters are held: they move up by one, and the letter comes last.
-fn move_up(held: &mut [u8], k: usize, letter: u8)
-    requires { ⌜ (1 ≤ k) × (k ≤ length (now held)) ⌝ }
-    ensures { λ _. ⌜ now (held .exit) ≡ pushed k k (now (held .entry)) letter ⌝ }
-{
-    let last = k - 1;
-    for i in 0..last {
-        held[i] = held[i + 1];
-    }
-    held[last] = letter;
-}
-
-// One letter more, behind the h of at most k that are held.
-fn push(held: &mut [u8], k: usize, h: usize, letter: u8)
-    requires { ⌜ (h ≤ k) × (k ≤ length (now held)) ⌝ }
-    ensures { λ _. ⌜ now (held .exit) ≡ pushed k h (now (held .entry)) letter ⌝ }
-{
-    if h < k {
-        held[h] = letter;
-        return;
-    }
-    if 0 < k {
-        move_up(held, k, letter);
-    }
-}
-
-// A letter is taken into a record.
-fn keep(rec: &mut [u8], k: usize, letter: u8, last: u8)
-    requires { ⌜ (8 + k ≤ length (now rec)) × (tidy k (now rec) ≡ true) × (decode (now rec) .fed < limit) ⌝ }
-    ensures { λ _. ⌜ now (rec .exit) ≡ takenInto k (now (rec .entry)) letter last ⌝ }
-{
-    let fed = fed_of(&rec[..]);
-    let held = held_of(&rec[..]);
-    push(&mut rec[8..], k, held, letter);
-    write_numbers(rec, fed + 1, last, lesser(held + 1, k));
-}
-
 // What an answer leaves of a record that a letter was fed to.
 fn apply(rec: &mut [u8], k: usize, letter: u8, answer: Answer)
     requires { ⌜ (8 + k ≤ length (now rec)) × Ready k (now rec) (said answer) ⌝ }
@@ -324,16 +202,7 @@ fn apply(rec: &mut [u8], k: usize, letter: u8, answer: Answer)
         return;
     }
     let last = last_after(answer, rec[4]);
-    keep(rec, k, letter, last);
-}
-
-fn clear(held: &mut [u8], k: usize)
-    requires { ⌜ k ≤ length (now held) ⌝ }
-    ensures { λ _. ⌜ now (held .exit) ≡ replicate k 0 ++ drop k (now (held .entry)) ⌝ }
-{
-    for i in 0..k {
-        held[i] = 0;
-    }
+    records::keep(rec, k, letter, last);
 }
 
 // What an answer leaves of a record that was opened.
@@ -345,8 +214,7 @@ fn begin(rec: &mut [u8], k: usize, answer: Answer)
         return;
     }
     let last = last_after(answer, 255);
-    clear(&mut rec[8..], k);
-    write_numbers(rec, 0, last, 0);
+    records::start(rec, k, last);
 }
 
 // ENDING
@@ -374,12 +242,12 @@ fn list_open(
     requires { ⌜ Fit n m (now sets) × (starts < 2 ^ n) × (8 + k ≤ length (now rec)) × (k ≤ 2016) × (k ≤ length (now out)) × ¬ (standing (successors n m starts (now sets)) k (now rec) ≡ 0) ⌝ }
     ensures { λ r. ⌜ (r ≡ length (openSets (successors n m starts (now (sets .entry))) k (now (rec .entry)))) × (now (out .exit) ≡ openSets (successors n m starts (now (sets .entry))) k (now (rec .entry)) ++ drop (length (openSets (successors n m starts (now (sets .entry))) k (now (rec .entry)))) (now (out .entry))) ⌝ }
 {
-    let held = held_of(rec);
-    let base = base_of(k, starts, fed_of(rec), rec[4]);
+    let held = records::held_of(rec);
+    let base = base_of(k, starts, records::fed_of(rec), rec[4]);
     let end = 8 + held;
     let mut all = [0u64; 2017];
     table::trace(sets, n, m, base, &rec[8..end], &mut all);
-    let count = lesser(held + 1, k);
+    let count = records::lesser(held + 1, k);
     let from = held + 1 - count;
     copy(out, &all[from..], count);
     count

@@ -9,7 +9,7 @@ use borrow.Author.Needs.{needs}
 use lib.Dec.{ltb}
 use lib.ListN.{length, getD}
 use Rattle.bitset.specs.Sets.{any}
-use Rattle.predictor.proofs.Bytes.{joined}
+use Rattle.records.proofs.Bytes.{joined}
 use Rattle.predictor.proofs.are_letters.Statement.{statement}
 use Rattle.predictor.proofs.are_letters.Tie as tie
 

@@ -3,7 +3,7 @@
 use Prim.Native.Nat.{_-_, _≤_}
 use mathlib.Core.Path.{_≡_, refl}
 use native.Mathlib.Omega.{arith}
-use Rattle.predictor.proofs.Copying.{Copied, copied-none, copied-next}
+use Rattle.records.proofs.Copying.{Copied, copied-none, copied-next}
 use Rattle.predictor.proofs.copy.Statement.{statement}
 use Rattle.predictor.proofs.copy.Tie as tie
 

@@ -10,8 +10,8 @@ use Rattle.semiautomata.specs.Semiautomaton.{Semiautomaton}
 use Rattle.semiautomata.specs.Walks.{step}
 use Rattle.semiautomata.specs.Successors.{successors}
 use Rattle.semiautomata.specs.PlainWalk.{limit}
-use Rattle.predictor.specs.Bytes.{decode}
-use Rattle.predictor.proofs.Bytes.{part-first}
+use Rattle.records.specs.Bytes.{decode}
+use Rattle.records.proofs.Bytes.{part-first}
 use Rattle.predictor.proofs.Standing.{By, by-sets, from-is, from-lt, Standing, standing-some, standing-none}
 use Rattle.predictor.proofs.Judging.{judged-10, judged-11, judged-12, judged-13, next-letters, judged-nothing, judged-resolved}
 use borrow.Author.Needs.{needs}

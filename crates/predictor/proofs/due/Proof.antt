@@ -11,7 +11,7 @@ use Rattle.bitset.specs.Sets.{has}
 use Rattle.bitset.proofs.Bits.{setOf-lt}
 use Rattle.semiautomata.specs.Successors.{successors}
 use Rattle.predictor.proofs.Letters.{letters-take, letters-drop}
-use Rattle.predictor.proofs.Bytes.{front-part, back-part}
+use Rattle.records.proofs.Bytes.{front-part, back-part}
 use Rattle.predictor.proofs.Judging.{due-set}
 use borrow.Author.Needs.{needs}
 use Rattle.predictor.proofs.due.Statement.{statement}

@@ -7,7 +7,7 @@ use native.Mathlib.Omega.{arith}
 use lib.ListN.{length, length-set, List·getD-append}
 use lib.Seq.{getD-append-seam}
 use Rattle.semiautomata.proofs.Streaming.{length-snoc}
-use Rattle.predictor.proofs.Copying.{Copied, copied-none, copied-next, copied-front}
+use Rattle.records.proofs.Copying.{Copied, copied-none, copied-next, copied-front}
 use Rattle.predictor.proofs.join.Statement.{statement}
 use Rattle.predictor.proofs.join.Tie as tie
 

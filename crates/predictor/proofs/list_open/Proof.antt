@@ -6,9 +6,9 @@ use native.Mathlib.Omega.{arith}
 use lib.ListN.{length, take, drop, length-take, length-drop}
 use Rattle.semiautomata.specs.Semiautomaton.{Semiautomaton}
 use Rattle.semiautomata.specs.Successors.{successors}
-use Rattle.predictor.specs.Bytes.{decode}
+use Rattle.records.specs.Bytes.{decode}
 use Rattle.predictor.specs.Parts.{standing}
-use Rattle.predictor.proofs.Bytes.{part-first, part-whole}
+use Rattle.records.proofs.Bytes.{part-first, part-whole}
 use Rattle.predictor.proofs.Standing.{By, by-sets, from-is, from-lt, Standing, standing-some}
 use Rattle.predictor.proofs.Ending.{open-sets, open-count}
 use borrow.Author.Needs.{needs}

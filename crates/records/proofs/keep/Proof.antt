@@ -6,12 +6,12 @@ use native.Mathlib.Numerals.{add-one}
 use native.Mathlib.Omega.{arith}
 use lib.ListN.{length, length-take, length-drop}
 use Rattle.semiautomata.specs.PlainWalk.{limit}
-use Rattle.predictor.specs.Parts.{pushed}
-use Rattle.predictor.proofs.Bytes.{Tidy, tidy-out, part-back}
-use Rattle.predictor.proofs.Held.{taken-bytes}
+use Rattle.records.specs.Taking.{pushed}
+use Rattle.records.proofs.Bytes.{Tidy, tidy-out, part-back}
+use Rattle.records.proofs.Held.{taken-bytes}
 use borrow.Author.Needs.{needs}
-use Rattle.predictor.proofs.keep.Statement.{statement}
-use Rattle.predictor.proofs.keep.Tie as tie
+use Rattle.records.proofs.keep.Statement.{statement}
+use Rattle.records.proofs.keep.Tie as tie
 
 tidied : (c : tie.Start) → Tidy (c .args .k) (c .args .rec .now)
 tidied c = tidy-out _ _ (c .pre .1)

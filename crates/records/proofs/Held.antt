@@ -7,12 +7,12 @@ use native.Mathlib.Nat.{not-suc-le-zero}
 use native.Mathlib.Numerals.{add-one}
 use native.Mathlib.Omega.{arith}
 use lib.ListN.{length, take, drop, getD, set, replicate, length-drop, length-set}
-use lib.Seq.{take-suc, drop-cons, set-at, set-split, getD-append-add, getD-drop, length-take-le, append-snoc, drop-drop, drop-at, drop-nil}
+use lib.Seq.{take-suc, drop-cons, set-at, set-split, getD-append-add, getD-drop, length-take-le, append-snoc, drop-drop, drop-at}
 use Rattle.semiautomata.specs.Streaming.{latest}
 use Rattle.semiautomata.proofs.Streaming.{length-snoc}
-use Rattle.predictor.specs.Bytes.{heldFrom, bytesOf, heldCount, decode, encode}
-use Rattle.predictor.specs.Parts.{pushed, takenInto}
-use Rattle.predictor.proofs.Bytes.{Tidy}
+use Rattle.records.specs.Bytes.{heldFrom, bytesOf, heldCount, decode, encode}
+use Rattle.records.specs.Taking.{pushed, takenInto, startedInto}
+use Rattle.records.proofs.Bytes.{Tidy}
 
 -- MOVING UP: the list when i letters have moved
 
@@ -118,15 +118,15 @@ module _ (k : ℕ) (b : List ℕ) (room : heldFrom + k ≤ length b) (t : Tidy k
   taken-bytes h fed last a count r₁ r₂ eh ef ec q₁ q₂ =
       kept-encode heldFrom k (heldCount b) (suc (decode b .fed)) last a b r₁ r₂ (t .count) room (t .zero) (rw eh at q₁) (rw (ef, ec, eh) at q₂)
 
--- OPENED: zeros in the part from byte 8 on and then the numbers written
+-- BEGUN: zeros in the part from byte 8 on and then the numbers written
 begun-encode : (from k last : ℕ) (b r₁ r₂ : List ℕ) → from + k ≤ length b → r₁ ≡ take from b ++ (replicate k 0 ++ drop k (drop from b))
-    → r₂ ≡ bytesOf 4 0 ++ (last ∷ 0 ∷ bytesOf 2 0 ++ drop from r₁) → r₂ ≡ encode k (record { fed = 0; last = last; held = latest k [] }) ++ drop (from + k) b
+    → r₂ ≡ bytesOf 4 0 ++ (last ∷ 0 ∷ bytesOf 2 0 ++ drop from r₁) → r₂ ≡ encode k (record { fed = 0; last = last; held = [] }) ++ drop (from + k) b
 begun-encode from k last b r₁ r₂ f q₁ q₂ =
     let tail : drop from r₁ ≡ replicate k 0 ++ drop k (drop from b) = rw q₁ (drop-at (take from b) (replicate k 0 ++ drop k (drop from b)) from (length-take-le from b (omega arith))) in
-    let none : latest k [] ≡ [] = drop-nil (0 - k) in
     let all : k - 0 ≡ k = omega arith in
-    q₂ ∙ rw (tail, drop-drop k from b, none, all)
+    q₂ ∙ rw (tail, drop-drop k from b, all)
 
 pub begun-bytes : (k last : ℕ) (b r₁ r₂ : List ℕ) → heldFrom + k ≤ length b → r₁ ≡ take heldFrom b ++ (replicate k 0 ++ drop k (drop heldFrom b))
-    → r₂ ≡ bytesOf 4 0 ++ (last ∷ 0 ∷ bytesOf 2 0 ++ drop heldFrom r₁) → r₂ ≡ encode k (record { fed = 0; last = last; held = latest k [] }) ++ drop (heldFrom + k) b
+    → r₂ ≡ bytesOf 4 0 ++ (last ∷ 0 ∷ bytesOf 2 0 ++ drop heldFrom r₁) → r₂ ≡ startedInto k b last
+unfolding startedInto
 begun-bytes = begun-encode heldFrom

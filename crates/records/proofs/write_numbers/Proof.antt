@@ -4,10 +4,10 @@ use mathlib.Core.List.{_∷_, _++_}
 use native.Mathlib.Omega.{arith}
 use lib.ListN.{length-set}
 use lib.Seq.{sets-eq}
-use Rattle.predictor.specs.Bytes.{bytesOf}
+use Rattle.records.specs.Bytes.{bytesOf}
 use borrow.Author.Needs.{needs}
-use Rattle.predictor.proofs.write_numbers.Statement.{statement}
-use Rattle.predictor.proofs.write_numbers.Tie as tie
+use Rattle.records.proofs.write_numbers.Statement.{statement}
+use Rattle.records.proofs.write_numbers.Tie as tie
 
 cast-rec : tie.Need-cast-rec
 cast-rec c = search needs

@@ -13,7 +13,7 @@ use Rattle.bitset.specs.Sets.{any}
 use Rattle.bitset.proofs.Tests.{and-out}
 use Rattle.bitset.proofs.Below.{any-none, any-not}
 use Rattle.semiautomata.specs.Streaming.{Rec}
-use Rattle.predictor.specs.Bytes.{heldFrom, bytesOf, heldCount, decode, tidy, encode}
+use Rattle.records.specs.Bytes.{heldFrom, bytesOf, heldCount, decode, tidy, encode}
 
 -- a test joined to those that passed
 pub joined : (a b : Bool) → (not a && b) ≡ not (a || not b)

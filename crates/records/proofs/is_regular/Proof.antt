@@ -4,10 +4,10 @@ use Prim.Native.Nat.{min}
 use lib.Dec.{eqb, ltb, leb}
 use borrow.Author.Tests.{lt-ltb, le-ltb}
 use Rattle.semiautomata.specs.PlainWalk.{limit}
-use Rattle.predictor.proofs.Bytes.{and-last}
+use Rattle.records.proofs.Bytes.{and-last}
 use borrow.Author.Needs.{needs}
-use Rattle.predictor.proofs.is_regular.Statement.{statement}
-use Rattle.predictor.proofs.is_regular.Tie as tie
+use Rattle.records.proofs.is_regular.Statement.{statement}
+use Rattle.records.proofs.is_regular.Tie as tie
 
 lesser-requires : tie.Need-lesser-requires
 lesser-requires c κs = search needs

@@ -4,9 +4,9 @@ use Prim.Native.Nat.{ℕ, _-_, _≤_}
 use mathlib.Core.Path.{sym}
 use native.Mathlib.Omega.{arith}
 use lib.ListN.{replicate, length-replicate, getD-replicate}
-use Rattle.predictor.proofs.Copying.{Copied, copied-none, copied-next, copied-all}
-use Rattle.predictor.proofs.clear.Statement.{statement}
-use Rattle.predictor.proofs.clear.Tie as tie
+use Rattle.records.proofs.Copying.{Copied, copied-none, copied-next, copied-all}
+use Rattle.records.proofs.clear.Statement.{statement}
+use Rattle.records.proofs.clear.Tie as tie
 
 abbrev Inv-loop : tie.InvT-loop
 Inv-loop held₀ k i₀ held i = (i ≤ k) × Copied (replicate k 0) held₀ i held

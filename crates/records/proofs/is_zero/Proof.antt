@@ -8,9 +8,9 @@ use native.Mathlib.Omega.{arith}
 use lib.Dec.{eqb}
 use lib.ListN.{getD}
 use Rattle.bitset.specs.Sets.{any}
-use Rattle.predictor.proofs.Bytes.{joined}
-use Rattle.predictor.proofs.is_zero.Statement.{statement}
-use Rattle.predictor.proofs.is_zero.Tie as tie
+use Rattle.records.proofs.Bytes.{joined}
+use Rattle.records.proofs.is_zero.Statement.{statement}
+use Rattle.records.proofs.is_zero.Tie as tie
 
 abbrev Inv-loop : tie.InvT-loop
 Inv-loop rec from count zero₀ i₀ zero i = (i ≤ count) × (zero ≡ not (any i (λ j. not (eqb (getD rec (from + j) 0) 0))))

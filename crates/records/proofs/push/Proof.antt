@@ -2,10 +2,10 @@
 -- Assumes nothing.
 use mathlib.Core.Path.{_≡_}
 use native.Mathlib.Omega.{arith}
-use Rattle.predictor.proofs.Held.{pushed-free, pushed-none}
+use Rattle.records.proofs.Held.{pushed-free, pushed-none}
 use borrow.Author.Needs.{needs}
-use Rattle.predictor.proofs.push.Statement.{statement}
-use Rattle.predictor.proofs.push.Tie as tie
+use Rattle.records.proofs.push.Statement.{statement}
+use Rattle.records.proofs.push.Tie as tie
 
 slice-write-held : tie.Need-slice-write-held
 slice-write-held c = search needs

@@ -1,10 +1,10 @@
 -- `is_tidy` meets its contract.
 -- Assumes nothing.
 use native.Mathlib.Omega.{arith}
-use Rattle.predictor.proofs.Bytes.{tidy-over, tidy-is}
+use Rattle.records.proofs.Bytes.{tidy-over, tidy-is}
 use borrow.Author.Needs.{needs}
-use Rattle.predictor.proofs.is_tidy.Statement.{statement}
-use Rattle.predictor.proofs.is_tidy.Tie as tie
+use Rattle.records.proofs.is_tidy.Statement.{statement}
+use Rattle.records.proofs.is_tidy.Tie as tie
 
 held-of-requires : tie.Need-held-of-requires
 held-of-requires c κs = search needs

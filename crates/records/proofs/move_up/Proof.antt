@@ -3,9 +3,9 @@
 use Prim.Native.Nat.{_-_, _≤_}
 use native.Mathlib.Omega.{arith}
 use lib.ListN.{length-set}
-use Rattle.predictor.proofs.Held.{Moved, moved-none, moved-more, moved-all}
-use Rattle.predictor.proofs.move_up.Statement.{statement}
-use Rattle.predictor.proofs.move_up.Tie as tie
+use Rattle.records.proofs.Held.{Moved, moved-none, moved-more, moved-all}
+use Rattle.records.proofs.move_up.Statement.{statement}
+use Rattle.records.proofs.move_up.Tie as tie
 
 abbrev Inv-loop : tie.InvT-loop
 Inv-loop held₀ k letter last i₀ held i = (i ≤ last) × Moved held₀ i held
