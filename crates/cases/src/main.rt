@@ -1,10 +1,10 @@
 // Runs document 01's plans A to H through the calls and writes a line for each: the look-ahead, or the refusal and whether its evidence
 // passes the check; then what document 01 says of that plan beside.
 // `stdout` is written from document 01; crates/demand proves the same of the definitions.
+use claim::Checked;
 use lookahead::Evidence;
 use predictor::Answer;
 use prepare::Prepared;
-use prepare::claim::Checked;
 use simulate::Judged;
 use simulate::Walked;
 
@@ -29,7 +29,7 @@ fn say_set(set: u64) {
 
 // What the check says of evidence.
 fn say_checked(plan: &[u8], e: Evidence, letters: &[u8]) {
-    let checked = prepare::claim::check(plan, e, letters);
+    let checked = claim::check(plan, e, letters);
     match checked {
         Checked::Yes => say(b" evidence yes"),
         Checked::No => say(b" evidence no"),

@@ -1,10 +1,9 @@
 -- Plans A to H as bytes: tests computed over the whole table, and one law that turns them into what each row says.
 -- Assumes nothing.
-use Prim.Native.Nat.{ℕ, suc, _+_, _*_, _≤_}
+use Prim.Native.Nat.{ℕ, suc}
 use mathlib.Core.Bool.{Bool, true, false, not, _&&_, false≢true}
 use mathlib.Core.Option.{Option, some, none}
 use mathlib.Core.Path.{_≡_, refl, sym, _∙_, ap}
-use mathlib.Core.Logic.{inl, inr}
 use mathlib.Core.List.{List, [], _∷_}
 use native.Mathlib.Omega.{arith}
 use lib.Dec.{eqb}
@@ -24,15 +23,12 @@ use Rattle.semiautomata.proofs.Shares.{lookahead-unique, lookahead-predicts}
 use Rattle.semiautomata.proofs.Plans.{computes, computes-holds}
 use Rattle.plan.specs.Bytes.{headerOf, meaning, refusal, WellFormed}
 use Rattle.plan.proofs.Refusals.{well-formed-within}
-use Rattle.table.specs.Table.{setsFrom}
 use Rattle.prepare.specs.declared.Prepared.{Prepared}
-use Rattle.prepare.specs.declared.Prepared.the-variants as prepared
-use Rattle.prepare.specs.Preparing.{Prepares, CountsTo, Draws, refuses, looks-ahead, refusalOf}
+use Rattle.prepare.specs.Preparing.{Draws, refuses, looks-ahead}
 use Rattle.prepare.specs.Preparing as preparing
-use Rattle.prepare.specs.Theorems.{Answers}
+use Rattle.prepare.specs.Theorems.{Right}
 use Rattle.demand.specs.Rows.{Saying, walked, judged, unopened, Row, Replied, drawn, IsSo, AllSo, RowHolds, AllRows, rows}
-use Rattle.prepare.proofs.Refusals.{count-clear, prepare-clear}
-use Rattle.prepare.proofs.Theorems.{shown-never, ready, never}
+use Rattle.prepare.proofs.Theorems.{theorems as preparing-theorems}
 use Rattle.simulate.specs.Verdicts.{Computes}
 use Rattle.simulate.proofs.Longest.{longest-some}
 use Rattle.simulate.proofs.Positions.{possible-stands}
@@ -40,20 +36,10 @@ use Rattle.simulate.proofs.Naming.{tells}
 use Rattle.demand.proofs.Theorems.{theorems}
 
 module _ (plan : List ℕ) (w : WellFormed plan) where
-  -- an answer that is no refusal is what the meaning has
-  replies : (v : Option ℕ) → Holds (meaning plan) v → (a : Prepared) (old letters : List ℕ) → ((r : ℕ) → ¬ (a ≡ prepared.Refused r)) → Answers plan a old letters → Replied v a
-  replies v h (prepared.Refused r) old letters n _ = absurd (n r refl)
-  replies (some k) h (prepared.Ready j) old letters n c = ap prepared.Ready (lookahead-unique (ready plan c .1) h)
-  replies none h (prepared.Ready j) old letters n c = absurd (lookahead-predicts (ready plan c .1) h)
-  replies (some k) h (prepared.Unpredictable e) old letters n c = absurd (lookahead-predicts h (shown-never (never plan c .1)))
-  replies none h (prepared.Unpredictable e) old letters n c = refl
-
-  -- with room enough there is no refusal
-  counts-on : (a : Prepared) (old letters : List ℕ) → headerOf plan .n * headerOf plan .n ≤ length old → CountsTo plan a old letters → (r : ℕ) → ¬ (a ≡ prepared.Refused r)
-  counts-on a old letters g c r e = let d = rw e at c in d .1 (d .0 ∙ count-clear plan w refl g)
-
-  prepares-on : (a : Prepared) (old table old′ letters : List ℕ) → setsFrom + headerOf plan .n * headerOf plan .m ≤ length old → headerOf plan .n * headerOf plan .n ≤ length old′ → Prepares plan a old table old′ letters → (r : ℕ) → ¬ (a ≡ prepared.Refused r)
-  prepares-on a old table old′ letters f g c r e = let d = rw e at c in d .1 (d .0 ∙ prepare-clear plan w refl refl f g)
+  -- a right answer is what the meaning has
+  replies : (v : Option ℕ) → Holds (meaning plan) v → (a : Prepared) → Right (meaning plan) a → Replied v a
+  replies (some k) h a r = r .ready k .1 h
+  replies none h a r = r .never .1 h
 
   draws : (v : Option ℕ) → Holds (meaning plan) v → (x : ℕ) → Draws plan x → x ≡ drawn v
   draws v h x (refuses n) = absurd (n w)
@@ -109,8 +95,8 @@ row-holds r c = with-and (eqb (refusal (r .plan)) 0) _ λ a b.
     record {
       well-formed = w;
       holds = h;
-      counted = λ a old letters g c. replies (r .plan) w (r .lookahead) h a old letters (counts-on (r .plan) w a old letters g c) (inl c);
-      prepared = λ a old table old′ letters f g c. replies (r .plan) w (r .lookahead) h a old′ letters (prepares-on (r .plan) w a old table old′ letters f g c) (inr (old, table, c));
+      counted = λ a old letters g c. replies (r .plan) w (r .lookahead) h a (preparing-theorems (r .plan) .counted-right w a old letters g c);
+      prepared = λ a old table old′ letters f g c. replies (r .plan) w (r .lookahead) h a (preparing-theorems (r .plan) .prepared-right w a old table old′ letters f g c);
       drew = draws (r .plan) w (r .lookahead) h;
       so = all-so (r .plan) W (r .sayings) c;
     }

@@ -15,7 +15,7 @@ use Rattle.semiautomata.specs.Walks.{possible}
 use Rattle.semiautomata.specs.Demand3.{followed, range, collect}
 use Rattle.semiautomata.specs.Streaming.{base, sound, unresolved}
 use Rattle.table.specs.Table.{lookaheadOf, tableMeaning, unfit}
-use Rattle.table.specs.Walking.{Written}
+use Rattle.walks.specs.Walking.{Written}
 use Rattle.table.proofs.Fitness.{Fitting, fitting-fit}
 use Rattle.records.specs.Bytes.{heldFrom, heldCount, decode, tidy}
 use Rattle.predictor.specs.Calls.{endRefusal}

@@ -23,8 +23,8 @@ use Rattle.semiautomata.specs.PlainWalk.{limit}
 use Rattle.semiautomata.specs.Streaming.{Rec, base, sound, latest, soleAt, resolve, settle, after, unopened, opened, feed, feedChecks}
 use Rattle.semiautomata.proofs.Computed.{reach-append, walkable-reach}
 use Rattle.semiautomata.proofs.Streaming.{length-snoc}
-use Rattle.table.specs.Walking.{Letters}
-use Rattle.table.proofs.Steps.{step-members}
+use Rattle.walks.specs.Walking.{Letters}
+use Rattle.walks.proofs.Steps.{step-members}
 use Rattle.records.specs.Bytes.{heldFrom, decode, tidy, encode}
 use Rattle.predictor.specs.Calls.{written, onto}
 use Rattle.records.specs.Taking.{takenInto, startedInto}

@@ -23,7 +23,7 @@ use Rattle.semiautomata.proofs.Computed.{walkable-reach}
 use Rattle.semiautomata.proofs.Positions.{single-is}
 use Rattle.semiautomata.proofs.Successors.{fit-within}
 use Rattle.table.specs.Table.{initialOf, tableMeaning}
-use Rattle.table.specs.Walking.{Letters}
+use Rattle.walks.specs.Walking.{Letters}
 use Rattle.table.proofs.Fitness.{Fitting}
 use Rattle.records.specs.Bytes.{heldFrom, heldCount, decode, tidy}
 use Rattle.records.specs.Taking.{regular}

@@ -9,7 +9,7 @@ ghost use lib.ListN.{length, getD, take, drop};
 ghost use Rattle.bitset.specs.Sets.{any, has, setOf};
 ghost use Rattle.semiautomata.specs.Walks.{reach, possible};
 ghost use Rattle.semiautomata.specs.Successors.{successors, Fit};
-ghost use Rattle.table.specs.Walking.{Letters};
+ghost use Rattle.walks.specs.Walking.{Letters};
 ghost use Rattle.predictor.specs.Replies.{said};
 ghost use Rattle.predictor.specs.Calls.{openedOn, fedOn, Ends};
 ghost use Rattle.predictor.specs.Parts.{baseSet, standing, resolving, judged, opening, openSets, isRefusal, lastAfter, fedInto, openedInto, Ready};
@@ -40,27 +40,15 @@ fn base_of(k: usize, starts: u64, fed: usize, last: u8) -> u64
     }
 }
 
-// Whether every letter of a word is below m.
-fn are_letters(word: &[u8], m: usize) -> bool
-    ensures { λ r. ⌜ r ≡ not (any (length (now (word .entry))) (λ i. not (ltb (getD (now (word .entry)) i 0) m))) ⌝ }
-{
-    let mut good = true;
-    for i in 0..word.len() {
-        good = good & (records::wide(word[i]) < m);
-    }
-    good
-}
-
 // The states that a word leads to from a set, whatever its bytes are: a letter of m or more leads nowhere.
 fn walk(sets: &[u64], n: usize, m: usize, set: u64, word: &[u8]) -> u64
     requires { ⌜ Fit n m (now sets) × (set < 2 ^ n) ⌝ }
     ensures { λ r. ⌜ ((starts : ℕ) → r ≡ setOf n (reach (successors n m starts (now (sets .entry))) (has set) (now (word .entry)))) ⌝ }
 {
-    if are_letters(word, m) {
-        table::reach_by(sets, n, m, set, word)
-    } else {
-        0
+    if walks::letter_off(word, m as u64) {
+        return 0;
     }
+    walks::reach_by(sets, n, m, set, word)
 }
 
 // The states that the held letters lead to from the base; none where the record breaks its rules.
@@ -104,8 +92,8 @@ fn due(sets: &[u64], n: usize, m: usize, k: usize, base: u64, held: &[u8], lette
     join(&mut word, held, letter);
     let end = held.len() + 1;
     let i = end - k;
-    let here = table::reach_by(sets, n, m, base, &word[..i]);
-    table::survivors_of(sets, n, m, here, &word[i..end])
+    let here = walks::reach_by(sets, n, m, base, &word[..i]);
+    walks::survivors_of(sets, n, m, here, &word[i..end])
 }
 
 // A position is resolved where one state is possible.
@@ -140,7 +128,7 @@ fn decide(sets: &[u64], n: usize, m: usize, k: usize, starts: u64, rec: &[u8], l
     if m <= a {
         return Answer::Refused(12);
     }
-    let next = table::gather(sets, n, m, here, a);
+    let next = walks::gather(sets, n, m, here, a);
     if next.set == 0 {
         return Answer::Refused(13);
     }
@@ -246,7 +234,7 @@ fn list_open(
     let base = base_of(k, starts, records::fed_of(rec), rec[4]);
     let end = 8 + held;
     let mut all = [0u64; 2017];
-    table::trace(sets, n, m, base, &rec[8..end], &mut all);
+    walks::trace(sets, n, m, base, &rec[8..end], &mut all);
     let count = records::lesser(held + 1, k);
     let from = held + 1 - count;
     copy(out, &all[from..], count);

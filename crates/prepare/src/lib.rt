@@ -1,4 +1,4 @@
-// From plan bytes to a look-ahead: preparing, the count call and the drawing program's entry; and the check of a claim that there is none.
+// From plan bytes to a look-ahead: preparing, the count call and the drawing program's entry.
 // The look-ahead itself is found by crate lookahead, from successor sets; here plans are read and loaded, and buffers judged.
 ghost use mathlib.Core.Path.{_≡_};
 ghost use Prim.Native.Nat.{ℕ, _*_};
@@ -7,8 +7,6 @@ ghost use Rattle.prepare.specs.Preparing.{Prepares, CountsTo, Draws};
 use lookahead::Answer;
 use lookahead::Evidence;
 use plan::Reading;
-
-pub mod claim;
 
 // What preparing and the count call answer: the look-ahead, a refusal, or (15) the evidence that there is no look-ahead.
 pub enum Prepared {

@@ -11,8 +11,8 @@ use Rattle.bitset.proofs.Below.{any-cong}
 use Rattle.semiautomata.specs.Walks.{spells, step, reach}
 use Rattle.semiautomata.specs.Successors.{successors, Fit}
 use Rattle.semiautomata.proofs.Computed.{reach-append}
-use Rattle.table.proofs.Steps.{bare, spells-bare, step-members}
-use Rattle.table.proofs.Words.{walks, fails}
+use Rattle.walks.proofs.Steps.{bare, spells-bare, step-members}
+use Rattle.walks.proofs.Words.{walks, fails}
 use Rattle.simulate.specs.Verdicts.{ends}
 use Rattle.simulate.proofs.Sets.{empty, inhabited}
 

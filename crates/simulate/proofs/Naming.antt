@@ -18,7 +18,7 @@ use Rattle.simulate.specs.declared.Verdict.{Verdict}
 use Rattle.simulate.specs.declared.Judged.the-variants.{Told, Refused}
 use Rattle.table.specs.Table.{lettersOf, tableMeaning, unfit}
 use Rattle.table.proofs.Fitness.{fitting}
-use Rattle.simulate.specs.Walking.{letterOff}
+use Rattle.walks.specs.Walking.{letterOff}
 use Rattle.simulate.specs.Verdicts.{unnamed, verdictRefusal, Tells, Judges, Computes}
 use Rattle.simulate.proofs.Sets.{stands}
 

@@ -10,7 +10,7 @@ use Rattle.semiautomata.specs.Semiautomaton.{Semiautomaton, Within}
 use Rattle.semiautomata.specs.Walks.{Longest, Possible, PossibleAt, possible}
 use Rattle.semiautomata.proofs.Computed.{possible-in, possible-out, longest-unique}
 use Rattle.semiautomata.proofs.Positions.{possible-lt}
-use Rattle.table.specs.Walking.{Written}
+use Rattle.walks.specs.Walking.{Written}
 use Rattle.simulate.specs.Walking.{Stands}
 use Rattle.simulate.proofs.Sets.{stands}
 

@@ -13,7 +13,8 @@ use Rattle.semiautomata.specs.Walks.{spells, survivors}
 use Rattle.semiautomata.specs.Selectors.{Survives, MinimalSelector, MaximalNonselector, minimalSelector, maximalNonselector}
 use Rattle.semiautomata.specs.Calls.{lowest}
 use Rattle.table.specs.Table.{lettersOf, tableMeaning, unfit}
-use Rattle.simulate.specs.Walking.{letterOff, Stands}
+use Rattle.walks.specs.Walking.{letterOff}
+use Rattle.simulate.specs.Walking.{Stands}
 use Rattle.simulate.specs.declared.Verdict.{Verdict}
 use Rattle.simulate.specs.declared.Judged.{Judged}
 use Rattle.simulate.specs.declared.Judged.the-variants.{Told, Refused}

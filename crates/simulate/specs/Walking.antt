@@ -5,18 +5,15 @@ use mathlib.Core.Bool.{Bool, true, not}
 use mathlib.Core.Logic.{_↔_}
 use mathlib.Core.Path.{_≡_}
 use mathlib.Core.List.{List, [], _∷_}
-use lib.Dec.{ltb, leb}
+use lib.Dec.{ltb}
 use lib.ListN.{length, getD, drop}
 use Rattle.bitset.specs.Sets.{any, has}
 use Rattle.semiautomata.specs.Calls.{lowest}
 use Rattle.semiautomata.specs.Walks.{Longest, PossibleAt}
+use Rattle.walks.specs.Walking.{letterOff}
 use Rattle.table.specs.Table.{statesOf, lettersOf, tableMeaning, unfit}
 use Rattle.simulate.specs.declared.Walked.{Walked}
 use Rattle.simulate.specs.declared.Walked.the-variants.{Upto, Refused}
-
--- 12: some letter of the word is not below m, wherever it stands.
-abbrev pub letterOff : ℕ → List ℕ → Bool
-letterOff m word = any (length word) (λ i. leb m (getD word i 0))
 
 unfoldable pub walkRefusal : List ℕ → List ℕ → ℕ → ℕ
 walkRefusal table word out =

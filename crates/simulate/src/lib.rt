@@ -6,8 +6,8 @@ ghost use Prim.Native.Nat.{ℕ, _^_, _<_};
 ghost use Rattle.bitset.specs.Sets.{any, has, setOf};
 ghost use Rattle.semiautomata.specs.Walks.{step, longest};
 ghost use Rattle.semiautomata.specs.Successors.{successors, Fit};
-ghost use Rattle.table.specs.Walking.{Letters};
-ghost use Rattle.simulate.specs.Walking.{letterOff, Walks};
+ghost use Rattle.walks.specs.Walking.{Letters};
+ghost use Rattle.simulate.specs.Walking.{Walks};
 ghost use Rattle.simulate.specs.Verdicts.{ends, Computes, Judges};
 
 // What a whole walk answers: the length of its longest beginning on the plan, or a refusal.
@@ -29,17 +29,6 @@ pub enum Judged {
     Refused(u8),
 }
 
-// Whether some letter of the word is not below m.
-fn letter_off(word: &[u8], m: u64) -> bool
-    ensures { λ r. ⌜ r ≡ letterOff m (now (word .entry)) ⌝ }
-{
-    let mut off = false;
-    for i in 0..word.len() {
-        off = off | (m <= word[i] as u64);
-    }
-    off
-}
-
 // How many letters of the word can be walked from a set that is not empty.
 fn longest_walked(sets: &[u64], n: usize, m: usize, starts: u64, word: &[u8]) -> usize
     requires { ⌜ Fit n m (now sets) × (starts < 2 ^ n) × (0 < starts) × Letters m (now word) ⌝ }
@@ -48,7 +37,7 @@ fn longest_walked(sets: &[u64], n: usize, m: usize, starts: u64, word: &[u8]) ->
     let mut here = starts;
     let mut g: usize = 0;
     while g < word.len() {
-        let next = table::gather(sets, n, m, here, word[g] as usize);
+        let next = walks::gather(sets, n, m, here, word[g] as usize);
         if next.set == 0 {
             return g;
         }
@@ -69,7 +58,7 @@ pub fn walk(table: &[u64], word: &[u8], out: &mut [u64]) -> Walked
         return Walked::Refused(9);
     }
     let m = table[1];
-    if letter_off(word, m) {
+    if walks::letter_off(word, m) {
         return Walked::Refused(12);
     }
     let starts = table[3];
@@ -79,7 +68,7 @@ pub fn walk(table: &[u64], word: &[u8], out: &mut [u64]) -> Walked
     let n = table[0] as usize;
     let sets = &table[4..];
     let g = longest_walked(sets, n, m as usize, starts, word);
-    table::trace(sets, n, m as usize, starts, &word[..g], out);
+    walks::trace(sets, n, m as usize, starts, &word[..g], out);
     Walked::Upto(g)
 }
 
@@ -89,7 +78,7 @@ fn stuck(sets: &[u64], n: usize, m: usize, set: u64) -> bool
     ensures { λ r. ⌜ ((starts : ℕ) → r ≡ not (any m (λ a. any n (step (successors n m starts (now (sets .entry))) (has set) a)))) ⌝ }
 {
     for letter in 0..m {
-        let next = table::gather(sets, n, m, set, letter);
+        let next = walks::gather(sets, n, m, set, letter);
         if next.set != 0 {
             return false;
         }
@@ -106,7 +95,7 @@ fn ending(sets: &[u64], n: usize, m: usize, set: u64, word: &[u8]) -> u64
     let mut rest = set;
     while rest != 0 {
         let member: u64 = 1 << u64::trailing_zeros(rest);
-        if stuck(sets, n, m, table::reach_by(sets, n, m, member, word)) {
+        if stuck(sets, n, m, walks::reach_by(sets, n, m, member, word)) {
             out |= member;
         }
         rest &= rest - 1;
@@ -120,7 +109,7 @@ fn judge_set(sets: &[u64], n: usize, m: usize, set: u64, word: &[u8]) -> Verdict
     requires { ⌜ Fit n m (now sets) × (set < 2 ^ n) × Letters m (now word) ⌝ }
     ensures { λ r. ⌜ ((starts : ℕ) → Computes (successors n m starts (now (sets .entry))) (has set) (now (word .entry)) r) ⌝ }
 {
-    let survivors = table::survivors_of(sets, n, m, set, word);
+    let survivors = walks::survivors_of(sets, n, m, set, word);
     if u64::count_ones(survivors) > 1 {
         return Verdict {
             survivors,
@@ -143,7 +132,7 @@ fn judge_set(sets: &[u64], n: usize, m: usize, set: u64, word: &[u8]) -> Verdict
         };
     }
     let last = word.len() - 1;
-    let before = table::survivors_of(sets, n, m, set, &word[..last]);
+    let before = walks::survivors_of(sets, n, m, set, &word[..last]);
     Verdict {
         survivors,
         minimal: u64::count_ones(before) != 1,
@@ -160,7 +149,7 @@ pub fn judge(table: &[u64], state: u32, letter: u32, word: &[u8]) -> Judged
     }
     let n = table[0];
     let m = table[1];
-    if letter_off(word, m) {
+    if walks::letter_off(word, m) {
         return Judged::Refused(12);
     }
     let sets = &table[4..];

@@ -1,5 +1,2 @@
-pub mod Steps
-pub mod Words
-pub mod Filling
 pub mod Fitness
 pub mod Form

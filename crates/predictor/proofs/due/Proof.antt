@@ -10,7 +10,7 @@ use lib.Seq.{length-take-le}
 use Rattle.bitset.specs.Sets.{has}
 use Rattle.bitset.proofs.Bits.{setOf-lt}
 use Rattle.semiautomata.specs.Successors.{successors}
-use Rattle.predictor.proofs.Letters.{letters-take, letters-drop}
+use Rattle.walks.proofs.Letters.{letters-take, letters-drop}
 use Rattle.records.proofs.Bytes.{front-part, back-part}
 use Rattle.predictor.proofs.Judging.{due-set}
 use borrow.Author.Needs.{needs}

@@ -10,8 +10,8 @@ use Rattle.bitset.specs.Sets.{has}
 use Rattle.bitset.proofs.Bits.{setOf-lt, setOf-cong}
 use Rattle.bitset.proofs.Members.{strike-less}
 use Rattle.bitset.proofs.Taking.{Left, left-first, left-next, least-below, Picked, picked-first, picked-with, picked-without, picked-all}
-use Rattle.table.proofs.Steps.{bare}
-use Rattle.table.proofs.Words.{alone-lt}
+use Rattle.walks.proofs.Steps.{bare}
+use Rattle.walks.proofs.Words.{alone-lt}
 use Rattle.simulate.specs.Verdicts.{ends}
 use Rattle.simulate.proofs.Endings.{stuck-ends, ends-bare}
 use Rattle.simulate.proofs.ending.Statement.{statement}

@@ -12,8 +12,9 @@ use Rattle.semiautomata.specs.Successors.{place}
 use Rattle.semiautomata.proofs.Successors.{place-lt}
 use Rattle.table.specs.Table.{statesOf, lettersOf, initialOf, setsOf, unfit}
 use Rattle.table.proofs.Fitness.{Fitting, fitting}
-use Rattle.simulate.specs.Walking.{letterOff}
-use Rattle.simulate.proofs.Lent.{lent, letters-below}
+use Rattle.walks.specs.Walking.{letterOff}
+use Rattle.simulate.proofs.Lent.{lent}
+use Rattle.walks.proofs.Letters.{letters-below}
 use Rattle.simulate.proofs.Naming.{fork-set, unfit-refused, letter-refused, name-refused, told}
 use Rattle.simulate.proofs.judge.Statement.{statement}
 use Rattle.simulate.proofs.judge.Tie as tie

@@ -6,7 +6,7 @@ use lib.ListN.{length, length-take}
 use borrow.Author.Needs.{needs}
 use Rattle.bitset.proofs.Bits.{setOf-lt}
 use Rattle.simulate.proofs.Minimality.{of-several, of-none, of-one-empty, of-one}
-use Rattle.simulate.proofs.Lent.{letters-take}
+use Rattle.walks.proofs.Letters.{letters-take}
 use Rattle.simulate.proofs.judge_set.Statement.{statement}
 use Rattle.simulate.proofs.judge_set.Tie as tie
 

@@ -9,7 +9,7 @@ use Rattle.bitset.proofs.Bits.{setOf-lt, setOf-has}
 use Rattle.semiautomata.specs.Walks.{reach}
 use Rattle.semiautomata.specs.Successors.{successors}
 use Rattle.semiautomata.proofs.Successors.{fit-within}
-use Rattle.table.proofs.Words.{next-set}
+use Rattle.walks.proofs.Words.{next-set}
 use Rattle.simulate.proofs.Sets.{empty, inhabited}
 use Rattle.simulate.proofs.Longest.{longest-at}
 use Rattle.simulate.proofs.longest_walked.Statement.{statement}

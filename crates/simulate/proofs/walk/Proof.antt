@@ -15,8 +15,10 @@ use Rattle.bitset.proofs.Bits.{has-empty, some-member}
 use Rattle.semiautomata.specs.Walks.{Longest}
 use Rattle.table.specs.Table.{statesOf, lettersOf, initialOf, tableMeaning, unfit}
 use Rattle.table.proofs.Fitness.{Fitting, fitting}
-use Rattle.simulate.specs.Walking.{letterOff, walkRefusal}
-use Rattle.simulate.proofs.Lent.{lent, letters-below, letters-take}
+use Rattle.walks.specs.Walking.{letterOff}
+use Rattle.simulate.specs.Walking.{walkRefusal}
+use Rattle.simulate.proofs.Lent.{lent}
+use Rattle.walks.proofs.Letters.{letters-below, letters-take}
 use Rattle.simulate.proofs.Longest.{longest-some}
 use Rattle.simulate.proofs.Positions.{written-stands, written-kept}
 use Rattle.simulate.proofs.walk.Statement.{statement}

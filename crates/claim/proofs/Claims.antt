@@ -1,0 +1,334 @@
+-- Claims that a plan has no look-ahead: the set that is named, cycles that lead back, and what the parts of a claim come to.
+-- Assumes nothing.
+use Prim.Native.Nat.{ℕ, zero, suc, _+_, _-_, _*_, _%_, _^_, _≤_, _<_}
+use mathlib.Core.Bool.{Bool, true, false, not, cond, _&&_, _||_, true≢false, false≢true, and-true, and-false}
+use mathlib.Core.Option.{Option, some, none}
+use mathlib.Core.Path.{_≡_, refl, sym, _∙_, subst, fun-ext}
+use mathlib.Core.Logic.{inl, inr}
+use mathlib.Core.List.{List, [], _∷_, _++_}
+use native.Mathlib.Omega.{arith}
+use lib.Bits.{bitAnd}
+use lib.Dec.{eqb, ltb, leb}
+use lib.ListN.{length, getD, take, drop, length-drop}
+use lib.Pow.{pow-lt}
+use lib.Seq.{length-take-le, getD-take, getD-drop, take-add}
+use borrow.Author.Tests.{lt-ltb, le-ltb, ltb-false, lt-leb, leb-true, leb-false, eq-eqb, ne-eqb, eqb-true, eqb-false, not-false}
+use Rattle.bitset.specs.Sets.{any, single, has, setOf}
+use Rattle.bitset.proofs.Tests.{and-in, and-out, or-cases, decided}
+use Rattle.bitset.proofs.Below.{any-in, any-not, with-any}
+use Rattle.bitset.proofs.Bits.{has-empty, has-lt, setOf-lt, has-setOf, is-setOf, setOf-has, pow-setOf, has-shl, meets-none, meets-some}
+use Rattle.semiautomata.specs.Semiautomaton.{Semiautomaton, Within, Path}
+use Rattle.semiautomata.specs.Predictability.{Critical, initial, fork, member, named, Counts, Lasso}
+use Rattle.semiautomata.specs.Walks.{reach}
+use Rattle.semiautomata.specs.Successors.{place, successors, Fit}
+use Rattle.semiautomata.proofs.Paths.{path-join, path-lt}
+use Rattle.semiautomata.proofs.Computed.{reach-in, reach-out}
+use Rattle.semiautomata.proofs.Shares.{member-lt}
+use Rattle.semiautomata.proofs.Successors.{place-lt, edge-is}
+use Rattle.walks.specs.Walking.{Letters}
+use Rattle.walks.proofs.Steps.{bare, bare-within}
+use Rattle.plan.specs.declared.Reading.the-variants.{Counts as Numbers, Refused}
+use Rattle.plan.specs.Bytes.{headerOf, meaning, refusal, WellFormed, counts, reading}
+use Rattle.plan.specs.Loading.{Loaded}
+use Rattle.plan.proofs.Refusals.{well-formed-range}
+use Rattle.plan.proofs.Loading.{room}
+use Rattle.lookahead.specs.declared.Evidence.{Evidence}
+use Rattle.lookahead.specs.Answers.{TrueOf}
+use Rattle.claim.specs.Checking.{NamedSet, LedBack, Loops}
+
+or-none : (a b : Bool) → (a || b) ≡ false → (a ≡ false) × (b ≡ false)
+or-none true b e = absurd (true≢false e)
+or-none false b e = (refl, e)
+
+-- THE SET THAT IS NAMED
+
+module _ (n m starts : ℕ) (sets : List ℕ) (q a : ℕ) where
+  pub named-initial : (eqb q 255 && eqb a 0) ≡ true → starts < 2 ^ n → NamedSet (successors n m starts sets) q a starts
+  named-initial e h = record {
+    some-set = λ T d. let i : initial ≡ T = cc (rw e at d) in rw (← i) (sym (setOf-has n starts h));
+    no-set = λ d. let z : _≡_ {A = ℕ} 0 1 = cc (rw e at d) in absurd (omega arith);
+  }
+
+  pub on-plan : (leb n q || leb m a) ≡ false → (q < n) × (a < m)
+  on-plan e = let (h, g) = or-none (leb n q) (leb m a) e in (leb-false n q h, leb-false m a g)
+
+  off-plan : (leb n q || leb m a) ≡ true → (ltb q n && ltb a m) ≡ false
+  off-plan e = elim (or-cases (leb n q) (leb m a) e) [
+    | inl h ↦ rw (le-ltb q n (leb-true n q h))
+    | inr h ↦ rw (le-ltb a m (leb-true m a h), and-false)
+  ]
+
+  module _ (no : (eqb q 255 && eqb a 0) ≡ false) where
+    pub named-none : (leb n q || leb m a) ≡ true → NamedSet (successors n m starts sets) q a 0
+    named-none e = record {
+      some-set = λ T d. let z : _≡_ {A = ℕ} 0 1 = cc (rw (no, off-plan e) at d) in absurd (omega arith);
+      no-set = λ d. refl;
+    }
+
+    pub named-fork : Fit n m sets → q < n → a < m → NamedSet (successors n m starts sets) q a (getD sets (place m q a) 0)
+    named-fork f h g = record {
+      some-set = λ T d.
+          let i : fork q a ≡ T = cc (rw (no, lt-ltb q n h, lt-ltb a m g) at d) in
+          rw (← i) (is-setOf n (successors n m starts sets .edge q a) (getD sets (place m q a) 0) (f .below (place m q a) (place-lt n m q a h g)) (λ t _. sym (edge-is n m starts sets q a t h g)));
+      no-set = λ d. let z : _≡_ {A = ℕ} 0 1 = cc (rw (no, lt-ltb q n h, lt-ltb a m g) at d) in absurd (omega arith);
+    }
+
+-- A CYCLE
+
+-- a path does not depend on the initial states
+path-same : (n m k l : ℕ) (sets w : List ℕ) (s t : ℕ) → Path (successors n m k sets) s w t → Path (successors n m l sets) s w t
+path-same n m k l sets [] s t p = p
+path-same n m k l sets (a ∷ w) s t (r, e, p) = (r, e, path-same n m k l sets w r t p)
+
+-- the set `1 << x`
+abbrev alone : ℕ → ℕ
+alone x = (1 * 2 ^ x) % 2 ^ 64
+
+-- the word leads back from x to x
+unfoldable pub leadsBack : ℕ → ℕ → List ℕ → List ℕ → ℕ → Bool
+leadsBack n m sets w x = reach (bare n m sets) (single x) w x
+
+module _ {n m : ℕ} {sets : List ℕ} (f : Fit n m sets) (w : List ℕ) where
+  module _ {x r : ℕ} (h : x < n) (e : r ≡ setOf n (reach (bare n m sets) (has (alone x)) w)) where
+    alone-has : (t : ℕ) → has (alone x) t ≡ single x t
+    alone-has t = has-shl 64 x t (omega (arith, f .states))
+
+    reached-at : has r x ≡ leadsBack n m sets w x
+    unfolding leadsBack
+    reached-at = rw (e, has-setOf, lt-ltb x n h, fun-ext alone-has)
+
+    pub back-hit : ¬ (bitAnd r (alone x) ≡ 0) → leadsBack n m sets w x ≡ true
+    back-hit ne =
+        with-any n _ (λ t g d.
+        let (a, b) = and-out (has r t) (has (alone x) t) d in
+        sym reached-at ∙ rw (eqb-true x t (sym (alone-has t) ∙ b)) a)
+        (meets-some n r (alone x) (rw e (setOf-lt n _)) ne)
+
+    pub back-miss : bitAnd r (alone x) ≡ 0 → leadsBack n m sets w x ≡ false
+    back-miss z = sym reached-at ∙ rw (alone-has x, eq-eqb x x refl, and-true) at (any-not n _ (meets-none n r (alone x) z) x h)
+
+  module _ (set : ℕ) where
+    pub led-yes : any n (λ x. has set x && leadsBack n m sets w x) ≡ true → (starts : ℕ) → LedBack (successors n m starts sets) set w true
+    unfolding leadsBack
+    led-yes e starts = record {
+      yes-so = λ _. with-any n _ (λ x _ d.
+          let (a, b) = and-out (has set x) _ d in
+          let (z, i, p) = reach-out (bare n m sets) (single x) w x b in
+          (x, a, path-same n m 0 starts sets w x x (rw (← eqb-true x z i) at p))) e;
+      no-so = λ d. absurd (true≢false d);
+    }
+
+    pub led-no : set < 2 ^ n → any n (λ x. has set x && leadsBack n m sets w x) ≡ false → (starts : ℕ) → LedBack (successors n m starts sets) set w false
+    unfolding leadsBack
+    led-no h e starts = record {
+      yes-so = λ d. absurd (false≢true d);
+      no-so = λ _ x i p.
+          let b = reach-in (bare n m sets) (bare-within f) (single x) w x x (eq-eqb x x refl) (path-same n m starts 0 sets w x x p) in
+          false≢true (sym e ∙ any-in n _ x (has-lt n set x h i) (and-in _ _ i b));
+    }
+
+-- A STEM AND A CYCLE
+
+module _ {n m : ℕ} {sets : List ℕ} (f : Fit n m sets) {s : ℕ} (h : s < n) {one : ℕ} (o : one ≡ setOf 64 (single s)) where
+  pub one-lt : one < 2 ^ n
+  one-lt = rw (o, ← pow-setOf 64 s (omega (arith, f .states))) (pow-lt h)
+
+  one-is : (t : ℕ) → has one t ≡ true → s ≡ t
+  one-is t d = eqb-true s t (and-out (ltb t 64) (eqb s t) (rw (o, has-setOf) at d) .1)
+
+  one-has : has one s ≡ true
+  one-has = rw (o, has-setOf, lt-ltb s 64 (omega (arith, f .states))) (eq-eqb s s refl)
+
+  pub loops : (stem cycle : List ℕ) {reached : ℕ} {r : Bool} → ((starts : ℕ) → reached ≡ setOf n (reach (successors n m starts sets) (has one) stem))
+      → ((starts : ℕ) → LedBack (successors n m starts sets) reached cycle r) → (starts : ℕ) → Loops (successors n m starts sets) s stem cycle r
+  loops stem cycle {reached} {r} e b starts = record {
+    yes-so = λ y.
+        let (x, d, p) = b starts .yes-so y in
+        let (z, i, u) = reach-out (successors n m starts sets) (has one) stem x (and-out (ltb x n) _ (rw (e starts, has-setOf) at d) .1) in
+        record { knot = x; reached = rw (one-is z i) u; back = p };
+    no-so = λ y l.
+        let u = path-same n m starts 0 sets stem s (l .knot) (l .reached) in
+        let below = path-lt (bare n m sets) (bare-within f) stem s (l .knot) h u in
+        b starts .no-so y (l .knot) (rw (e 0, has-setOf, lt-ltb (l .knot) n below) (reach-in (bare n m sets) (bare-within f) (has one) stem s (l .knot) one-has u)) (l .back);
+  }
+
+-- THE LETTERS
+
+path-letters : {S : Semiautomaton} → Within S → (w : List ℕ) (s t : ℕ) → Path S s w t → (i : ℕ) → i < length w → getD w i 0 < S .m
+path-letters W [] s t p i h = absurd (omega arith)
+path-letters W (a ∷ w) s t (r, e, p) zero h = W .letter-lt s a r e
+path-letters W (a ∷ w) s t (r, e, p) (suc i) h = path-letters W w r t p i (omega arith)
+
+-- a part of a word has no other letters
+part-letters : {m : ℕ} (end : ℕ) (word : List ℕ) → Letters m (take end word) → end ≤ length word → (at size : ℕ) → at + size ≤ end → Letters m (take size (drop at word))
+part-letters end word l h at size g = record {
+  below = λ i k.
+      let fits : size ≤ length (drop at word) = rw length-drop (omega arith) in
+      let k : i < size = rw (length-take-le size (drop at word) fits) at k in
+      let e : at + i < end = omega arith in
+      rw (getD-take size (drop at word) i 0 k, getD-drop) (rw (getD-take end word (at + i) 0 e) at (l .below (at + i) (rw (length-take-le end word h) e)));
+}
+
+-- THE CLAIM
+
+counts-by : (S : Semiautomaton) (T : Critical) (x : ℕ) → member S T x ≡ true → Counts S T
+counts-by S initial x e = tt
+counts-by S (fork q a) x e = (x, e)
+
+module _ {S : Semiautomaton} {q a set : ℕ} (N : NamedSet S q a set) where
+  member-in : Within S → (T : Critical) → named S q a ≡ some T → (x : ℕ) → member S T x ≡ true → has set x ≡ true
+  member-in W T d x e = rw (N .some-set T d, has-setOf, lt-ltb x (S .n) (member-lt W T x e)) e
+
+  member-out : (T : Critical) → named S q a ≡ some T → (x : ℕ) → has set x ≡ true → member S T x ≡ true
+  member-out T d x e = and-out (ltb x (S .n)) _ (rw (N .some-set T d, has-setOf) at e) .1
+
+  some-named : (x : ℕ) → has set x ≡ true → (T : Critical) × (named S q a ≡ some T)
+  some-named x e = go (named S q a) refl
+    where
+      go : (o : Option Critical) → named S q a ≡ o → (T : Critical) × (named S q a ≡ some T)
+      go none d = absurd (false≢true (sym (has-empty x) ∙ (rw (N .no-set d) at e)))
+      go (some T) d = (T, d)
+
+-- the states are out of order, or one is no member; the lengths are none, too many or past the letters
+abbrev statesOff : Evidence → Bool → Bool → Bool
+statesOff k low high = (leb (k .high) (k .low) || not low) || not high
+
+abbrev lengthsOff : ℕ → Evidence → List ℕ → Bool
+lengthsOff n k letters = (eqb (k .cycle) 0 || ltb (n * n) (k .stem + k .cycle)) || ltb (length letters) (k .stem + k .cycle)
+
+-- the letters do not end before the lengths do
+pub lengths-there : (n : ℕ) (k : Evidence) (letters : List ℕ) → lengthsOff n k letters ≡ false → k .stem + k .cycle ≤ length letters
+lengths-there n k letters e = ltb-false (length letters) (k .stem + k .cycle) (or-none (eqb (k .cycle) 0 || ltb (n * n) (k .stem + k .cycle)) _ e .1)
+
+module _ (k : Evidence) (letters : List ℕ) (h : k .stem + k .cycle ≤ length letters) where
+  pub stem-length : length (take (k .stem) letters) ≡ k .stem
+  stem-length = length-take-le (k .stem) letters (omega arith)
+
+  cycle-length : length (take (k .cycle) (drop (k .stem) letters)) ≡ k .cycle
+  cycle-length = length-take-le (k .cycle) (drop (k .stem) letters) (rw length-drop (omega arith))
+
+  -- the letters of the stem and of the cycle
+  pub word-letters : {m : ℕ} → Letters m (take (k .stem + k .cycle) letters)
+      → Letters m (take (k .stem) letters) × Letters m (take (k .stem + k .cycle - k .stem) (drop (k .stem) letters))
+  word-letters l = (
+    part-letters (k .stem + k .cycle) letters l h 0 (k .stem) (omega arith),
+    part-letters (k .stem + k .cycle) letters l h (k .stem) (k .stem + k .cycle - k .stem) (omega arith),
+  )
+
+module _ {S : Semiautomaton} (W : Within S) (k : Evidence) (letters : List ℕ) where
+  pub claimed-lengths : TrueOf S k letters → lengthsOff (S .n) k letters ≡ false
+  claimed-lengths c =
+      let x = stem-length k letters (c .there) in
+      let y = cycle-length k letters (c .there) in
+      rw (
+        ne-eqb (k .cycle) 0 (λ e. omega (arith, c .witness .turns, y)),
+        le-ltb (S .n * S .n) (k .stem + k .cycle) (omega (arith, c .witness .short, x, y)),
+        le-ltb (length letters) (k .stem + k .cycle) (c .there),
+      )
+
+  pub claimed-letters : TrueOf S k letters → Letters (S .m) (take (k .stem + k .cycle) letters)
+  claimed-letters c =
+      let l = c .witness .s-lasso in
+      let stem = take (k .stem) letters in
+      let cycle = take (k .cycle) (drop (k .stem) letters) in
+      rw (take-add (k .stem) (k .cycle) letters) (record {
+        below = path-letters W (stem ++ cycle) (k .low) (l .knot) (path-join S stem cycle (k .low) (l .knot) (l .knot) (l .reached) (l .back));
+      })
+
+  module _ {set : ℕ} (N : NamedSet S (k .state) (k .letter) set) {low high : Bool} (low-is : low ≡ has set (k .low)) (high-is : high ≡ has set (k .high)) where
+    pub claimed-states : TrueOf S k letters → statesOff k low high ≡ false
+    claimed-states c =
+        let w = c .witness in
+        rw (
+          lt-leb (k .high) (k .low) (w .order),
+          low-is ∙ member-in N W (c .set) (c .names) (k .low) (w .s-in),
+          high-is ∙ member-in N W (c .set) (c .names) (k .high) (w .t-in),
+        )
+
+    module _ (states : statesOff k low high ≡ false) where
+      states-are : (k .low < k .high) × (has set (k .low) ≡ true) × (has set (k .high) ≡ true)
+      states-are =
+          let (e, d) = or-none (leb (k .high) (k .low) || not low) (not high) states in
+          let (o, e) = or-none (leb (k .high) (k .low)) (not low) e in
+          (leb-false (k .high) (k .low) o, sym low-is ∙ not-false low e, sym high-is ∙ not-false high d)
+
+      -- both are states of the plan
+      pub states-lt : (k .low < S .n) × (k .high < S .n)
+      states-lt =
+          let (_, e, d) = states-are in
+          let (T, i) = some-named N (k .low) e in
+          (member-lt W T (k .low) (member-out N T i (k .low) e), member-lt W T (k .high) (member-out N T i (k .high) d))
+
+      module _ (lengths : lengthsOff (S .n) k letters ≡ false) where
+        claimed-by : Lasso S (k .low) (take (k .stem) letters) (take (k .cycle) (drop (k .stem) letters))
+            → Lasso S (k .high) (take (k .stem) letters) (take (k .cycle) (drop (k .stem) letters)) → TrueOf S k letters
+        claimed-by l r =
+            let (o, e, d) = states-are in
+            let (T, i) = some-named N (k .low) e in
+            let (u, w) = or-none (eqb (k .cycle) 0) _ (or-none (eqb (k .cycle) 0 || ltb (S .n * S .n) (k .stem + k .cycle)) _ lengths .0) in
+            let there = lengths-there (S .n) k letters lengths in
+            record {
+              set = T;
+              names = i;
+              there = there;
+              witness = record {
+                counts = counts-by S T (k .low) (member-out N T i (k .low) e);
+                s-in = member-out N T i (k .low) e;
+                t-in = member-out N T i (k .high) d;
+                order = o;
+                turns = rw (cycle-length k letters there) (omega (arith, eqb-false (k .cycle) 0 u));
+                short = rw (stem-length k letters there, cycle-length k letters there) (ltb-false (S .n * S .n) (k .stem + k .cycle) w);
+                s-lasso = l;
+                t-lasso = r;
+              };
+            }
+
+        pub claimed-answer : {x y : Bool} → Loops S (k .low) (take (k .stem) letters) (take (k .stem + k .cycle - k .stem) (drop (k .stem) letters)) x
+            → Loops S (k .high) (take (k .stem) letters) (take (k .stem + k .cycle - k .stem) (drop (k .stem) letters)) y
+            → ((x && y) ≡ true → TrueOf S k letters) × ((x && y) ≡ false → ¬ TrueOf S k letters)
+        claimed-answer {x} {y} l r =
+            let e : k .stem + k .cycle - k .stem ≡ k .cycle = omega arith in
+            let l : Loops S (k .low) (take (k .stem) letters) (take (k .cycle) (drop (k .stem) letters)) x = rw e at l in
+            let r : Loops S (k .high) (take (k .stem) letters) (take (k .cycle) (drop (k .stem) letters)) y = rw e at r in (
+              λ b. let (b, d) = and-out x y b in claimed-by (l .yes-so b) (r .yes-so d),
+              λ b c. elim (decided x) [ inl d ↦ r .no-so (rw d at b) (c .witness .t-lasso) | inr d ↦ l .no-so d (c .witness .s-lasso) ],
+            )
+
+-- THE PLAN
+
+pub refused-by : (plan : List ℕ) {r : ℕ} → reading plan ≡ Refused r → (r ≡ refusal plan) × ¬ (r ≡ 0)
+refused-by plan {r} e = go (eqb (refusal plan) 0) refl e
+  where
+    go : (b : Bool) → eqb (refusal plan) 0 ≡ b → cond b (counts (headerOf plan)) (Refused (refusal plan)) ≡ Refused r → (r ≡ refusal plan) × ¬ (r ≡ 0)
+    go true d e = let z : _≡_ {A = ℕ} 0 1 = cc in absurd (omega arith)
+    go false d e = let i : r ≡ refusal plan = cc in (i, λ z. eqb-false (refusal plan) 0 d (sym i ∙ z))
+
+-- the plan is well formed, with so many states and letters
+pub record Read (plan : List ℕ) (n m : ℕ) : Type 0 where
+  pub formed : WellFormed plan
+  pub n-is : n ≡ headerOf plan .n
+  pub m-is : m ≡ headerOf plan .m
+
+pub read-by : (plan : List ℕ) {n m p l : ℕ} → reading plan ≡ Numbers n m p l → Read plan n m
+read-by plan {n} {m} {p} {l} e = go (eqb (refusal plan) 0) refl e
+  where
+    go : (b : Bool) → eqb (refusal plan) 0 ≡ b → cond b (counts (headerOf plan)) (Refused (refusal plan)) ≡ Numbers n m p l → Read plan n m
+    go true d e = record { formed = eqb-true (refusal plan) 0 d; n-is = cc; m-is = cc }
+    go false d e = let z : _≡_ {A = ℕ} 0 1 = cc in absurd (omega arith)
+
+module _ {plan : List ℕ} {n m : ℕ} (i : Read plan n m) where
+  pub read-room : headerOf plan .n * headerOf plan .m ≤ 2048
+  read-room = let r = well-formed-range plan (i .formed) in room (r .n-high) (r .m-high)
+
+  module _ {old sets : List ℕ} {starts : ℕ} (l : Loaded plan old sets starts) where
+    pub read-fit : Fit n m sets × (starts < 2 ^ n)
+    read-fit = rw (i .n-is, i .m-is) (l .fit, l .starts-fit)
+
+    read-means : successors n m starts sets ≡ meaning plan
+    read-means = rw (i .n-is, i .m-is) (l .means)
+
+    pub read-yes : {k : Evidence} {letters : List ℕ} → TrueOf (successors n m starts sets) k letters → TrueOf (meaning plan) k letters
+    read-yes {k} {letters} c = subst (λ (S : Semiautomaton). TrueOf S k letters) read-means c
+
+    pub read-no : {k : Evidence} {letters : List ℕ} → ¬ TrueOf (successors n m starts sets) k letters → ¬ TrueOf (meaning plan) k letters
+    read-no {k} {letters} f c = f (subst (λ (S : Semiautomaton). TrueOf S k letters) (sym read-means) c)
