@@ -2,9 +2,10 @@
  *
  * A slice is a pointer and then how many elements are lent. Each call answers a value below 65,536, or 65,536 plus the number of a
  * refusal (document 01); further values go into a lent slice, which keeps its rest. A refused call writes nothing, except that under 15
- * preparing and the count call write the evidence. A slice for further values that is too short is refused with 9, in its place among
- * the refusals. A pointer that goes with the length 0 may be anything; no two slices that are lent to one call may overlap if one of
- * them is written. Nothing is kept between calls, so that different threads may call at once.
+ * preparing and the count call write the evidence. A slice for further values with fewer places than are named below is refused with 9,
+ * in its place among the refusals, also where the call would put nothing there. A pointer that goes with the length 0 may be anything; no
+ * two slices that are lent to one call may overlap if one of them is written. Nothing is kept between calls, so that different threads may
+ * call at once.
  */
 #ifndef GAWHERINO_H
 #define GAWHERINO_H
@@ -30,11 +31,11 @@ extern "C" {
 /* With code 0: the starts, as a critical set. */
 #define GAWHERINO_STARTS 255u
 
-/* Reading a plan: n; into counts: m, p and e. Refused with 1 to 7, 9. */
+/* Reading a plan: n; into counts (3): m, p and e. Refused with 1 to 7, 9. */
 uint32_t gawherino_read(const uint8_t *plan, size_t plan_len, uint32_t *counts, size_t counts_len);
 
 /* Preparing a plan: k, and its table (4 + n * m numbers). Refused with 1 to 7, 9, 15.
- * Under 15, into evidence: the critical set's stake and code, stakes s and t, the lengths of the lead-in and of the loop; and into
+ * Under 15, into evidence (6): the critical set's stake and code, stakes s and t, the lengths of the lead-in and of the loop; and into
  * letters (n * n bytes) the codes of both. */
 uint32_t gawherino_prepare(const uint8_t *plan, size_t plan_len, uint64_t *table, size_t table_len, uint8_t *letters, size_t letters_len,
                            uint32_t *evidence, size_t evidence_len);
@@ -50,17 +51,17 @@ uint32_t gawherino_count(const uint8_t *plan, size_t plan_len);
 uint32_t gawherino_check(const uint8_t *plan, size_t plan_len, const uint32_t *claim, size_t claim_len, const uint8_t *letters,
                          size_t letters_len);
 
-/* A whole walk: 0; into length: g; into sets (one more than the word has codes): the possible stakes at 0 to g.
+/* A whole walk: 0; into length (1): g; into sets (one more than the word has codes): the possible stakes at 0 to g.
  * Refused with 8, 9, 12, 13. */
 uint32_t gawherino_walk(const uint64_t *table, size_t table_len, const uint8_t *word, size_t word_len, uint64_t *sets, size_t sets_len,
                         uint64_t *length, size_t length_len);
 
-/* The verdict on a word for a critical set: 1 if it is a minimal selector, else 0; into sets: the stakes of the set that can walk the
+/* The verdict on a word for a critical set: 1 if it is a minimal selector, else 0; into sets (2): the stakes of the set that can walk the
  * word, and those for which it is a maximal nonselector. Refused with 8, 9, 12. */
 uint32_t gawherino_judge(const uint64_t *table, size_t table_len, uint32_t state, uint32_t letter, const uint8_t *word, size_t word_len,
                          uint64_t *sets, size_t sets_len);
 
-/* Opening a walk on a record (8 + k bytes): the booked stake, with its position into position, or 255 if none was booked.
+/* Opening a walk on a record (8 + k bytes): the booked stake, with its position into position (1), or 255 if none was booked.
  * Refused with 8, 9, 13, 14. */
 uint32_t gawherino_open(const uint64_t *table, size_t table_len, uint8_t *rec, size_t rec_len, uint32_t *position, size_t position_len);
 

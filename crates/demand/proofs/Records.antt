@@ -21,7 +21,7 @@ use Rattle.records.specs.Bytes.{heldFrom, decode, tidy, encode}
 use Rattle.predictor.specs.Replies.{said}
 use Rattle.predictor.specs.Calls.{written, onto, openedOn, fedOn}
 use Rattle.records.proofs.Bytes.{decode-encode, tidy-encode, length-encode}
-use Rattle.demand.specs.Demand.{Feeds, Feeding, none, more}
+use Rattle.demand.specs.Demand.{Feeding, none, more}
 
 -- the bytes hold the record r for k
 pub record Holds (k : ℕ) (bytes : List ℕ) (r : Rec) : Type 0 where
@@ -95,7 +95,7 @@ module _ (table : List ℕ) (fit : unfit table ≡ false) where
         let is = fed-is bytes r letter h in
         let t = feed S k r letter in
         let agree = feed-agrees S W k P r w letter f in
-        let reply : said answer ≡ t .reply = c .reply ∙ ap (λ (x : Result (List ℕ)). x .reply) is in
-        let state : left ≡ written k bytes (t .state) (t .reply) = c .state ∙ ap (λ (x : Result (List ℕ)). x .state) is in
+        let reply : said answer ≡ t .reply = c .0 ∙ ap (λ (x : Result (List ℕ)). x .reply) is in
+        let state : left ≡ written k bytes (t .state) (t .reply) = c .1 ∙ ap (λ (x : Result (List ℕ)). x .state) is in
         let next : Holds k left (t .state) = rw state (written-holds k bytes r (t .state) (t .reply) h (follows-small (t .state) (plainFeed S k w letter .state) (agree .state)) (feed-keeps S k r letter)) in
         rw (reply, feeding-replies rest (t .state) (plainFeed S k w letter .state) next (agree .state))

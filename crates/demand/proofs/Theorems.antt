@@ -23,7 +23,7 @@ use Rattle.predictor.specs.declared.Answer.{Answer}
 use Rattle.records.specs.Bytes.{heldFrom, decode, encode}
 use Rattle.predictor.specs.Replies.{said}
 use Rattle.predictor.specs.Calls.{written, onto, openedOn, fedOn, tableCheck, recordCheck, tidyCheck}
-use Rattle.demand.specs.Demand.{Made, Opens, Feeds, Feeding, Walk, Theorems}
+use Rattle.demand.specs.Demand.{Made, Feeding, Walk, Theorems}
 use Rattle.demand.proofs.Records.{Holds, Small, encode-holds, follows-small, opened-is, feeding-replies}
 
 -- a table that fits has a look-ahead that two bytes can count
@@ -85,8 +85,8 @@ module _ (table : List ℕ) (fit : unfit table ≡ false) (P : Predictable (tabl
         let S = tableMeaning table in
         let k = lookaheadOf table in
         let h = w .room in
-        let reply : said first ≡ opened S k .reply = w .opening .reply ∙ ap (λ (x : Result (List ℕ)). x .reply) (opened-is table fit (w .bytes) h) in
-        let holds : Holds k (w .left) (opened S k .state) = rw (w .opening .state) (opened-holds (w .bytes) h) in
+        let reply : said first ≡ opened S k .reply = w .opening .0 ∙ ap (λ (x : Result (List ℕ)). x .reply) (opened-is table fit (w .bytes) h) in
+        let holds : Holds k (w .left) (opened S k .state) = rw (w .opening .1) (opened-holds (w .bytes) h) in
         rw (reply, feeding-replies table fit W P (few table (fitting table fit)) (w .feeding) (opened S k .state) [] holds (opened-agrees S W k P s e .state))
 
     on-demand3 : Lookahead (tableMeaning table) (lookaheadOf table) → (offered : List ℕ) (first : Answer) (answers : List Answer) → Walk table (lookaheadOf table) offered first answers
@@ -108,12 +108,12 @@ theorems plan k table made =
       opening-refused = λ bytes a left h o no.
           let h : heldFrom + K ≤ length bytes = rw (t .k-is) h in
           let no : (s : ℕ) → S .initial s ≡ false = λ s. same s ∙ no s in
-          o .reply ∙ ap (λ (x : Result (List ℕ)). x .reply) (opened-is table fit bytes h) ∙ opened-none S K no;
+          o .0 ∙ ap (λ (x : Result (List ℕ)). x .reply) (opened-is table fit bytes h) ∙ opened-none S K no;
       opening-taken = λ bytes a left h o s e r q.
           let h : heldFrom + K ≤ length bytes = rw (t .k-is) h in
           let e : S .initial s ≡ true = same s ∙ e in
-          opened-some S (W table fit P) K P s e r (sym (o .reply ∙ ap (λ (x : Result (List ℕ)). x .reply) (opened-is table fit bytes h)) ∙ q);
-      never-14 = λ bytes letter a left f q. on-never-14 table fit P bytes letter (sym (f .reply) ∙ q);
+          opened-some S (W table fit P) K P s e r (sym (o .0 ∙ ap (λ (x : Result (List ℕ)). x .reply) (opened-is table fit bytes h)) ∙ q);
+      never-14 = λ bytes letter a left f q. on-never-14 table fit P bytes letter (sym (f .0) ∙ q);
       demand3 = λ s e offered first answers w.
           let e : S .initial s ≡ true = same s ∙ e in
           let w : Walk table K offered first answers = rw (t .k-is) w in

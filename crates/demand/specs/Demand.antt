@@ -13,7 +13,7 @@ use Rattle.prepare.specs.Preparing.{Prepares}
 use Rattle.predictor.specs.declared.Answer.{Answer}
 use Rattle.records.specs.Bytes.{heldFrom}
 use Rattle.predictor.specs.Replies.{said}
-use Rattle.predictor.specs.Calls.{openedOn, fedOn}
+use Rattle.predictor.specs.Calls.{Opens, Feeds}
 
 -- Preparing made the table from the plan and answered k: its promise held of what it was lent and what it left.
 pub record Made (plan : List ℕ) (k : ℕ) (table : List ℕ) : Type 0 where
@@ -21,15 +21,6 @@ pub record Made (plan : List ℕ) (k : ℕ) (table : List ℕ) : Type 0 where
   pub old-letters : List ℕ
   pub letters : List ℕ
   pub prepared : Prepares plan (Ready k) old table old-letters letters
-
--- A call of opening, and of a letter fed, that keeps its promise: lent the table and bytes, it answers so and leaves those bytes.
-pub record Opens (table bytes : List ℕ) (answer : Answer) (left : List ℕ) : Type 0 where
-  pub reply : said answer ≡ openedOn table bytes .reply
-  pub state : left ≡ openedOn table bytes .state
-
-pub record Feeds (table bytes : List ℕ) (letter : ℕ) (answer : Answer) (left : List ℕ) : Type 0 where
-  pub reply : said answer ≡ fedOn table bytes letter .reply
-  pub state : left ≡ fedOn table bytes letter .state
 
 -- Letters offered one after the other, and the answers: each call is lent the table unchanged, and the bytes that the call before, taken
 -- or refused, left.

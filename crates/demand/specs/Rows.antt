@@ -23,7 +23,8 @@ use Rattle.simulate.specs.Verdicts.{Tells}
 use Rattle.predictor.specs.declared.Answer.{Answer}
 use Rattle.records.specs.Bytes.{heldFrom}
 use Rattle.predictor.specs.Replies.{said}
-use Rattle.demand.specs.Demand.{Made, Opens}
+use Rattle.predictor.specs.Calls.{Opens}
+use Rattle.demand.specs.Demand.{Made}
 
 -- What document 01 says beside the look-ahead: a walk wholly on the plan, with the possible states at each position; the verdict on a word
 -- for the fork set of a state and a letter; that opening is refused with 13.

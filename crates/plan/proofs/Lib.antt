@@ -3,3 +3,4 @@ pub mod Groups
 pub mod Entering
 pub mod Refusals
 pub mod Loading
+pub mod Theorems

@@ -11,6 +11,8 @@ use Rattle.bitset.specs.Sets.{setOf}
 use Rattle.semiautomata.specs.Calls.{Reply, refused, resolved, nothing, Result, Check, checked, lowest}
 use Rattle.semiautomata.specs.Streaming.{Rec, opened, feed, finish, soundCheck}
 use Rattle.table.specs.Table.{statesOf, lookaheadOf, tableMeaning, unfit}
+use Rattle.predictor.specs.declared.Answer.{Answer}
+use Rattle.predictor.specs.Replies.{said}
 use Rattle.predictor.specs.declared.Ended.{Ended}
 use Rattle.predictor.specs.declared.Ended.the-variants.{Open, Refused}
 use Rattle.records.specs.Bytes.{heldFrom, decode, tidy, encode}
@@ -42,6 +44,13 @@ unfoldable pub fedOn : List ℕ → List ℕ → ℕ → Result (List ℕ)
 fedOn table bytes a =
     checked (tableCheck table ∷ recordCheck table bytes ∷ tidyCheck table bytes ∷ []) bytes
     (onto (lookaheadOf table) bytes (feed (tableMeaning table) (lookaheadOf table) (decode bytes) a))
+
+-- What opening, and a letter fed, gives: this answer, and these bytes left in the record.
+abbrev pub Opens : List ℕ → List ℕ → Answer → List ℕ → Type 0
+Opens table bytes answer left = (said answer ≡ openedOn table bytes .reply) × (left ≡ openedOn table bytes .state)
+
+abbrev pub Feeds : List ℕ → List ℕ → ℕ → Answer → List ℕ → Type 0
+Feeds table bytes letter answer left = (said answer ≡ fedOn table bytes letter .reply) × (left ≡ fedOn table bytes letter .state)
 
 -- Ending: 9 also for fewer than k sets lent.
 unfoldable pub endRefusal : List ℕ → List ℕ → ℕ → ℕ

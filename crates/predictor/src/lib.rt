@@ -11,7 +11,7 @@ ghost use Rattle.semiautomata.specs.Walks.{reach, possible};
 ghost use Rattle.semiautomata.specs.Successors.{successors, Fit};
 ghost use Rattle.walks.specs.Walking.{Letters};
 ghost use Rattle.predictor.specs.Replies.{said};
-ghost use Rattle.predictor.specs.Calls.{openedOn, fedOn, Ends};
+ghost use Rattle.predictor.specs.Calls.{Opens, Feeds, Ends};
 ghost use Rattle.predictor.specs.Parts.{baseSet, standing, resolving, judged, opening, openSets, isRefusal, lastAfter, fedInto, openedInto, Ready};
 
 // What opening and a letter fed answer: a refusal, a resolved position and its state, or that none was resolved.
@@ -245,7 +245,7 @@ fn list_open(
 
 // A fresh walk.
 pub fn open(table: &[u64], rec: &mut [u8]) -> Answer
-    ensures { λ r. ⌜ (said r ≡ openedOn (now (table .entry)) (now (rec .entry)) .reply) × (now (rec .exit) ≡ openedOn (now (table .entry)) (now (rec .entry)) .state) ⌝ }
+    ensures { λ r. ⌜ Opens (now (table .entry)) (now (rec .entry)) r (now (rec .exit)) ⌝ }
 {
     if table::is_unfit(table) {
         return Answer::Refused(8);
@@ -261,7 +261,7 @@ pub fn open(table: &[u64], rec: &mut [u8]) -> Answer
 
 // One letter more.
 pub fn feed(table: &[u64], rec: &mut [u8], letter: u8) -> Answer
-    ensures { λ r. ⌜ (said r ≡ fedOn (now (table .entry)) (now (rec .entry)) letter .reply) × (now (rec .exit) ≡ fedOn (now (table .entry)) (now (rec .entry)) letter .state) ⌝ }
+    ensures { λ r. ⌜ Feeds (now (table .entry)) (now (rec .entry)) letter r (now (rec .exit)) ⌝ }
 {
     if table::is_unfit(table) {
         return Answer::Refused(8);

@@ -19,11 +19,11 @@ use Rattle.prepare.specs.Preparing.{short, shortTable, shortLetters, cou
 
 -- MORE CHECKS AFTER A LIST
 
-abbrev Positive : List Check → Type 0
+abbrev pub Positive : List Check → Type 0
 Positive [] = Unit {0}
 Positive (c ∷ cs) = (0 < c .number) × Positive cs
 
-lowest-zero : (cs ds : List Check) → Positive cs → lowest cs ≡ 0 → lowest (cs ++ ds) ≡ lowest ds
+pub lowest-zero : (cs ds : List Check) → Positive cs → lowest cs ≡ 0 → lowest (cs ++ ds) ≡ lowest ds
 lowest-zero [] ds p e = refl
 lowest-zero (c ∷ cs) ds p e = go (decided (c .applies)) (lowest-zero cs ds (p .1))
   where
@@ -31,7 +31,7 @@ lowest-zero (c ∷ cs) ds p e = go (decided (c .applies)) (lowest-zero cs ds (p 
     go (inl a) ih = let z : c .number ≡ 0 = rw a at e in absurd (omega (arith, p .0))
     go (inr a) ih = rw a (ih (rw a at e))
 
-lowest-first : (cs ds : List Check) → ¬ (lowest cs ≡ 0) → lowest (cs ++ ds) ≡ lowest cs
+pub lowest-first : (cs ds : List Check) → ¬ (lowest cs ≡ 0) → lowest (cs ++ ds) ≡ lowest cs
 lowest-first [] ds n = absurd (n refl)
 lowest-first (c ∷ cs) ds n = go (decided (c .applies)) (lowest-first cs ds)
   where
@@ -39,7 +39,7 @@ lowest-first (c ∷ cs) ds n = go (decided (c .applies)) (lowest-first cs ds)
     go (inl a) ih = rw a
     go (inr a) ih = rw a (ih (rw a at n))
 
-positive : (plan : List ℕ) → Positive (planChecks plan)
+pub positive : (plan : List ℕ) → Positive (planChecks plan)
 positive plan = (omega arith, (omega arith, (omega arith, (omega arith, (omega arith, (omega arith, (omega arith, tt)))))))
 
 -- how large the buffers are

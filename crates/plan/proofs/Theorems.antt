@@ -1,0 +1,9 @@
+-- The theorems of specs/Theorems.antt.
+-- Assumes nothing.
+use mathlib.Core.List.{List}
+use Prim.Native.Nat.{ℕ}
+use Rattle.plan.specs.Theorems.{Theorems}
+use Rattle.plan.proofs.Refusals.{well-formed-within}
+
+pub theorems : (plan : List ℕ) → Theorems plan
+theorems plan = record { within = well-formed-within plan }
