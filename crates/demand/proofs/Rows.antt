@@ -1,35 +1,45 @@
 -- Plans A to H as bytes: tests computed over the whole table, and one law that turns them into what each row says.
 -- Assumes nothing.
-use Prim.Native.Nat.{ℕ, suc}
+use Prim.Native.Nat.{ℕ, zero, suc, _*_, _≤_, _<_}
 use mathlib.Core.Bool.{Bool, true, false, not, _&&_, false≢true}
 use mathlib.Core.Option.{Option, some, none}
-use mathlib.Core.Path.{_≡_, refl, sym, _∙_, ap}
+use mathlib.Core.Path.{_≡_, refl, sym, _∙_, ap, subst}
 use mathlib.Core.List.{List, [], _∷_}
 use native.Mathlib.Omega.{arith}
-use lib.Dec.{eqb}
+use lib.Dec.{eqb, ltb}
 use lib.ListN.{length, getD, take}
-use borrow.Author.Tests.{eqb-true}
+use borrow.Author.Tests.{eqb-true, le-ltb, not-true}
 use Rattle.bitset.specs.Sets.{any, size, setOf}
 use Rattle.bitset.proofs.Tests.{not-so}
 use Rattle.bitset.proofs.Below.{any-in, any-not}
 use Rattle.semiautomata.specs.Semiautomaton.{Semiautomaton, Within}
-use Rattle.semiautomata.specs.Predictability.{fork, member}
-use Rattle.semiautomata.specs.Walks.{Longest, spells, step, possible, walkable, greatest, longest}
+use Rattle.semiautomata.specs.Predictability.{fork, member, named}
+use Rattle.semiautomata.specs.Walks.{Longest, PossibleAt, spells, step, possible, walkable, greatest, longest}
 use Rattle.semiautomata.specs.Selectors.{selector, minimalSelector, maximalNonselector}
 use Rattle.semiautomata.specs.Levels.{live, clashIn, clash}
-use Rattle.semiautomata.specs.Plans.{Holds}
 use Rattle.semiautomata.proofs.Levels.{with-and}
 use Rattle.semiautomata.proofs.Shares.{lookahead-unique, lookahead-predicts}
-use Rattle.semiautomata.proofs.Plans.{computes, computes-holds}
+use Rattle.semiautomata.proofs.Decide.{clash-out, clash-in, some-shorter, lookahead-first, some-witness, witness-unpredictable}
+use Rattle.semiautomata.proofs.Computed.{longest-unique}
 use Rattle.plan.specs.Bytes.{headerOf, meaning, refusal, WellFormed}
 use Rattle.plan.proofs.Refusals.{well-formed-within}
 use Rattle.prepare.specs.declared.Prepared.{Prepared}
 use Rattle.prepare.specs.Preparing.{Draws, refuses, looks-ahead}
 use Rattle.prepare.specs.Preparing as preparing
 use Rattle.prepare.specs.Theorems.{Right}
-use Rattle.demand.specs.Rows.{Saying, walked, judged, unopened, Row, Replied, drawn, IsSo, AllSo, RowHolds, AllRows, rows}
+use Rattle.demand.specs.Rows.{Saying, walked, judged, unopened, Row, Holds, Replied, drawn, IsSo, AllSo, RowHolds, AllRows, rows}
 use Rattle.prepare.proofs.Theorems.{theorems as preparing-theorems}
-use Rattle.simulate.specs.Verdicts.{Computes}
+use Rattle.table.specs.Table.{statesOf, lettersOf, tableMeaning, unfit}
+use Rattle.walks.specs.Walking.{letterOff}
+use Rattle.simulate.specs.declared.Verdict.{Verdict}
+use Rattle.simulate.specs.declared.Walked.{Walked}
+use Rattle.simulate.specs.declared.Walked.the-variants as walks
+use Rattle.simulate.specs.declared.Judged.{Judged}
+use Rattle.simulate.specs.declared.Judged.the-variants as judging
+use Rattle.simulate.specs.Walking.{Stands, walkRefusal, Walks}
+use Rattle.simulate.specs.Verdicts.{verdictRefusal, Judges, Tells, Computes}
+use Rattle.simulate.proofs.Theorems.{one-set, one-verdict}
+use Rattle.demand.specs.Demand.{Made}
 use Rattle.simulate.proofs.Longest.{longest-some}
 use Rattle.simulate.proofs.Positions.{possible-stands}
 use Rattle.simulate.proofs.Naming.{tells}
@@ -48,7 +58,50 @@ module _ (plan : List ℕ) (w : WellFormed plan) where
   draws (some k) h x (preparing.never _ u) = absurd (lookahead-predicts h u)
   draws none h x (preparing.never _ u) = refl
 
--- WHAT IS SAID BESIDE THE LOOK-AHEAD
+-- the test of a look-ahead: no clash at k, one at k - 1; or one at n × n
+abbrev computes : Semiautomaton → Option ℕ → Bool
+computes S (some zero) = not (clash S 0)
+computes S (some (suc k)) = clash S k && not (clash S (suc k))
+computes S none = clash S (S .n * S .n)
+
+computes-holds : (S : Semiautomaton) → Within S → (v : Option ℕ) → computes S v ≡ true → Holds S v
+computes-holds S W (some zero) e = lookahead-first S W 0 (λ j h. absurd (omega arith)) (not-true (clash S 0) e)
+computes-holds S W (some (suc k)) e = with-and (clash S k) _ (λ p q.
+    lookahead-first S W (suc k) (λ j h. clash-in S W j (some-shorter S j k (omega arith) (clash-out S k p))) (not-true (clash S (suc k)) q)) e
+computes-holds S W none e = let (c, w) = some-witness S W (clash-out S (S .n * S .n) e) in witness-unpredictable S c w
+
+-- WHAT IS SAID BESIDE THE LOOK-AHEAD, of a table that preparing made
+
+module _ (plan : List ℕ) (W : Within (meaning plan)) (k : ℕ) (table : List ℕ) (made : Made plan k table) where
+  means : tableMeaning table ≡ meaning plan
+  means = made .prepared .2 .means
+
+  fit : unfit table ≡ false
+  fit = made .prepared .2 .fit
+
+  walk-so : (w sets : List ℕ) → any (meaning plan .n) (meaning plan .initial) ≡ true → letterOff (meaning plan .m) w ≡ false → Longest (meaning plan) w (length w)
+      → ((i : ℕ) → i ≤ length w → Stands (meaning plan .n) (PossibleAt (meaning plan) w i) (getD sets i 0)) → (old out : List ℕ) (a : Walked) → length w < length old → Walks table w a old out
+      → (a ≡ walks.Upto (length w)) × ((i : ℕ) → i ≤ length w → getD out i 0 ≡ getD sets i 0)
+  unfolding walkRefusal
+  walk-so w sets begun letters whole stand old out (walks.Refused r) room (e, n, _) =
+      let e9 : ltb (length old) (suc (length w)) ≡ false = le-ltb (length old) (suc (length w)) room in
+      let e12 : letterOff (lettersOf table) w ≡ false = subst (λ (S : Semiautomaton). letterOff (S .m) w ≡ false) (sym means) letters in
+      let e13 : any (statesOf table) (tableMeaning table .initial) ≡ true = subst (λ (S : Semiautomaton). any (S .n) (S .initial) ≡ true) (sym means) begun in
+      absurd (n (e ∙ rw (fit, e9, e12, e13)))
+  walk-so w sets begun letters whole stand old out (walks.Upto h) room (_, l, s, _) =
+      let q : h ≡ length w = longest-unique (meaning plan) w h (length w) (subst (λ (S : Semiautomaton). Longest S w h) means l) whole in
+      (ap walks.Upto q, λ i g. one-set _ _ _ _ (subst (λ (S : Semiautomaton). Stands (S .n) (PossibleAt S w i) (getD out i 0)) means (s i (omega arith))) (stand i g))
+
+  judge-so : (q a : ℕ) (w : List ℕ) (v : Verdict) → named (meaning plan) q a ≡ some (fork q a) → letterOff (meaning plan .m) w ≡ false → Tells (meaning plan) (fork q a) w v
+      → (r : Judged) → Judges table q a w r → r ≡ judging.Told v
+  unfolding verdictRefusal
+  judge-so q a w v named-so letters tell (judging.Refused r) (e, n) =
+      let e12 : letterOff (lettersOf table) w ≡ false = subst (λ (S : Semiautomaton). letterOff (S .m) w ≡ false) (sym means) letters in
+      let e′ : named (tableMeaning table) q a ≡ some (fork q a) = subst (λ (S : Semiautomaton). named S q a ≡ some (fork q a)) (sym means) named-so in
+      absurd (n (e ∙ rw (fit, e′, e12)))
+  judge-so q a w v named-so letters tell (judging.Told u) (_, t) =
+      let e′ : named (tableMeaning table) q a ≡ some (fork q a) = subst (λ (S : Semiautomaton). named S q a ≡ some (fork q a)) (sym means) named-so in
+      ap judging.Told (one-verdict (meaning plan) (fork q a) w u v (subst (λ (S : Semiautomaton). Tells S (fork q a) w u) means (t (fork q a) e′)) tell)
 
 not-false : (b : Bool) → not b ≡ false → b ≡ true
 not-false true e = refl
@@ -56,9 +109,9 @@ not-false false e = absurd (false≢true (sym e))
 
 abbrev Computed : Semiautomaton → Saying → Type 0
 Computed S (walked w sets) =
-    (any (S .n) (S .initial) ≡ true) × (longest S w ≡ length w)
+    (any (S .n) (S .initial) ≡ true) × (letterOff (S .m) w ≡ false) × (longest S w ≡ length w)
     × (any (suc (length w)) (λ i. not (eqb (getD sets i 0) (setOf (S .n) (possible S (S .initial) (take (length w) w) i)))) ≡ false)
-Computed S (judged q a w v) = Computes S (member S (fork q a)) w v
+Computed S (judged q a w v) = (named S q a ≡ some (fork q a)) × (letterOff (S .m) w ≡ false) × Computes S (member S (fork q a)) w v
 Computed S unopened = any (S .n) (S .initial) ≡ false
 
 abbrev AllComputed : Semiautomaton → List Saying → Type 0
@@ -66,11 +119,11 @@ AllComputed S [] = Unit {0}
 AllComputed S (c ∷ cs) = Computed S c × AllComputed S cs
 
 is-so : (plan : List ℕ) → Within (meaning plan) → (c : Saying) → Computed (meaning plan) c → IsSo plan c
-is-so plan W (walked w sets) (begun, whole, at) =
+is-so plan W (walked w sets) (begun, letters, whole, at) = λ k table old out a made.
     let S = meaning plan in
     let l : Longest S w (length w) = rw whole at (longest-some S W w begun) in
-    record { whole = l; possible = λ i h. possible-stands S W w (length w) l i h (eqb-true _ _ (not-false _ (any-not _ _ at i (omega arith)))) }
-is-so plan W (judged q a w v) c = tells (meaning plan) W (fork q a) c
+    walk-so plan W k table made w sets begun letters l (λ i h. possible-stands S W w (length w) l i h (eqb-true _ _ (not-false _ (any-not _ _ at i (omega arith))))) old out a
+is-so plan W (judged q a w v) (name, letters, c) = λ k table r made. judge-so plan W k table made q a w v name letters (tells (meaning plan) W (fork q a) c) r
 is-so plan W unopened e = λ k table bytes left a made room o.
     theorems plan k table made .opening-refused bytes a left room o (λ s. not-so _ λ q. false≢true (sym e ∙ any-in _ _ s (W .initial-lt s q) q))
 
@@ -117,10 +170,10 @@ rows-said : AllSaid rows
 unfolding any spells step possible walkable greatest longest selector minimalSelector maximalNonselector setOf size
 rows-said = (
   (
-    record { survivors = refl; minimal = refl; nonselected = refl },
-    (record { survivors = refl; minimal = refl; nonselected = refl }, tt),
+    (refl, refl, record { survivors = refl; minimal = refl; nonselected = refl }),
+    ((refl, refl, record { survivors = refl; minimal = refl; nonselected = refl }), tt),
   ),
-  (tt, (((refl, refl, refl), tt), (tt, ((refl, tt), (((refl, refl, refl), tt), (tt, (tt, (tt, tt)))))))),
+  (tt, (((refl, refl, refl, refl), tt), (tt, ((refl, tt), (((refl, refl, refl, refl), tt), (tt, (tt, (tt, tt)))))))),
 )
 
 pub rows-hold : AllRows rows

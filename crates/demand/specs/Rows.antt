@@ -1,25 +1,27 @@
 -- Document 01's plans A to H as bytes, with what it says of each: the look-ahead, the possible states of a walk, verdicts, opening; and a
 -- ninth: C numbered so that a round in place would go wrong.
 -- Assumes nothing.
-use Prim.Native.Nat.{ℕ, _+_, _*_, _≤_}
+use Prim.Native.Nat.{ℕ, _+_, _*_, _≤_, _<_}
 use mathlib.Core.Bool.{Bool, true, false}
 use mathlib.Core.Option.{Option, some, none}
 use mathlib.Core.Path.{_≡_}
 use mathlib.Core.List.{List, [], _∷_}
 use lib.ListN.{length, getD}
 use Rattle.semiautomata.specs.Semiautomaton.{Semiautomaton}
-use Rattle.semiautomata.specs.Predictability.{fork}
-use Rattle.semiautomata.specs.Walks.{Longest, PossibleAt}
+use Rattle.semiautomata.specs.Predictability.{Lookahead, Unpredictable}
 use Rattle.semiautomata.specs.Calls.{refused}
-use Rattle.semiautomata.specs.Plans.{Holds}
 use Rattle.plan.specs.Bytes.{headerOf, meaning, WellFormed}
 use Rattle.table.specs.Table.{setsFrom}
 use Rattle.prepare.specs.declared.Prepared.{Prepared}
 use Rattle.prepare.specs.declared.Prepared.the-variants.{Ready}
 use Rattle.prepare.specs.Preparing.{Prepares, CountsTo, Draws, refusalOf}
 use Rattle.simulate.specs.declared.Verdict.{Verdict}
-use Rattle.simulate.specs.Walking.{Stands}
-use Rattle.simulate.specs.Verdicts.{Tells}
+use Rattle.simulate.specs.declared.Walked.{Walked}
+use Rattle.simulate.specs.declared.Walked.the-variants.{Upto}
+use Rattle.simulate.specs.declared.Judged.{Judged}
+use Rattle.simulate.specs.declared.Judged.the-variants.{Told}
+use Rattle.simulate.specs.Walking.{Walks}
+use Rattle.simulate.specs.Verdicts.{Judges}
 use Rattle.predictor.specs.declared.Answer.{Answer}
 use Rattle.records.specs.Bytes.{heldFrom}
 use Rattle.predictor.specs.Replies.{said}
@@ -39,6 +41,11 @@ pub record Row : Type 0 where
   pub lookahead : Option ℕ
   pub sayings : List Saying
 
+-- What a row says of what its plan means.
+abbrev pub Holds : Semiautomaton → Option ℕ → Type 0
+Holds S (some k) = Lookahead S k
+Holds S none = Unpredictable S
+
 -- What preparing and the count call answer, and the number that the drawing program gets.
 abbrev pub Replied : Option ℕ → Prepared → Type 0
 Replied (some k) r = r ≡ Ready k
@@ -48,13 +55,12 @@ abbrev pub drawn : Option ℕ → ℕ
 drawn (some k) = k
 drawn none = 65551
 
-pub record WalkedSo (S : Semiautomaton) (word sets : List ℕ) : Type 0 where
-  pub whole : Longest S word (length word)
-  pub possible : (i : ℕ) → i ≤ length word → Stands (S .n) (PossibleAt S word i) (getD sets i 0)
-
+-- What document 01 says beside is so of the calls, lent a table that preparing made from the plan.
 abbrev pub IsSo : List ℕ → Saying → Type 0
-IsSo plan (walked word sets) = WalkedSo (meaning plan) word sets
-IsSo plan (judged q a word v) = Tells (meaning plan) (fork q a) word v
+IsSo plan (walked word sets) =
+    (k : ℕ) (table old out : List ℕ) (a : Walked) → Made plan k table → length word < length old → Walks table word a old out
+    → (a ≡ Upto (length word)) × ((i : ℕ) → i ≤ length word → getD out i 0 ≡ getD sets i 0)
+IsSo plan (judged q a word v) = (k : ℕ) (table : List ℕ) (r : Judged) → Made plan k table → Judges table q a word r → r ≡ Told v
 IsSo plan unopened =
     (k : ℕ) (table bytes left : List ℕ) (a : Answer) → Made plan k table → heldFrom + k ≤ length bytes → Opens table bytes a left → said a ≡ refused 13
 

@@ -14,5 +14,4 @@ pub mod Streaming
 pub mod Demand3
 pub mod Plan
 pub mod Successors
-pub mod Plans
 pub mod Theorems

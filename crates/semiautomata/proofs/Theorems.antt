@@ -2,7 +2,7 @@
 -- Assumes nothing.
 use mathlib.Core.Logic.{inl, inr}
 use Rattle.semiautomata.specs.Semiautomaton.{Semiautomaton}
-use Rattle.semiautomata.specs.Theorems.{Theorems, PlansAreSo}
+use Rattle.semiautomata.specs.Theorems.{Theorems}
 use Rattle.semiautomata.proofs.Shares as shares
 use Rattle.semiautomata.proofs.Bound as bounds
 use Rattle.semiautomata.proofs.Levels as levels
@@ -12,7 +12,6 @@ use Rattle.semiautomata.proofs.Positions as positions
 use Rattle.semiautomata.proofs.Selectors as verdicts
 use Rattle.semiautomata.proofs.Streaming as streaming
 use Rattle.semiautomata.proofs.Demand3 as demand
-use Rattle.semiautomata.proofs.Plans as rows
 
 pub theorems : (S : Semiautomaton) → Theorems S
 theorems S = record {
@@ -58,6 +57,3 @@ theorems S = record {
   ending = demand.finish-whole S;
   demand3 = λ W k l. demand.demand3 S W k (l .enough);
 }
-
-pub plans-are-so : PlansAreSo
-plans-are-so = rows.plans-hold

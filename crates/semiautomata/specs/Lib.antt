@@ -7,7 +7,6 @@ pub mod PlainWalk
 pub mod Demand3
 pub mod Streaming
 pub mod Plan
-pub mod Plans
 pub mod Levels
 pub mod Successors
 pub mod Theorems

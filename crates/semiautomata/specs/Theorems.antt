@@ -15,7 +15,6 @@ use Rattle.semiautomata.specs.Calls.{refused}
 use Rattle.semiautomata.specs.PlainWalk.{stateAt, plain, plainTaken}
 use Rattle.semiautomata.specs.Demand3.{Only11to13, Demand3}
 use Rattle.semiautomata.specs.Streaming.{Rec, settle, opened, feed, unresolved, finish, streamed, recordAfter}
-use Rattle.semiautomata.specs.Plans.{AllHold, plans}
 
 -- X is a set of states of S.
 abbrev pub Below : Semiautomaton → (ℕ → Bool) → Type 0
@@ -90,7 +89,3 @@ pub record Theorems (S : Semiautomaton) : Type 0 where
       → finish S k (recordAfter S k offered) ≡ unresolved S k (S .initial) (plainTaken S k offered)
   -- DEMAND 3
   pub demand3 : Within S → (k : ℕ) → Lookahead S k → (s : ℕ) → S .initial s ≡ true → (offered : List ℕ) → Demand3 S k offered (streamed S k offered)
-
--- Plans A to H have the look-ahead that document 01 says.
-abbrev pub PlansAreSo : Type 0
-PlansAreSo = AllHold plans

@@ -5,3 +5,4 @@ pub mod Endings
 pub mod Minimality
 pub mod Lent
 pub mod Naming
+pub mod Theorems

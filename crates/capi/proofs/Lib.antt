@@ -1,0 +1,3 @@
+pub mod Rooms
+pub mod Evidence
+pub mod Endings
