@@ -1,12 +1,14 @@
 -- The search for a letter that leads two states on to a pair of the rows.
 -- Assumes nothing.
-use mathlib.Core.Bool.{true, false}
-use mathlib.Core.Path.{_≡_, sym, _∙_}
+use mathlib.Core.Bool.{Bool, true, false, _&&_}
+use mathlib.Core.Path.{_≡_, refl, sym, _∙_}
 use mathlib.Core.List.{List}
 use Prim.Native.Nat.{ℕ, _<_}
-use Rattle.bitset.specs.Sets.{has}
+use lib.Bits.{bitAnd}
+use Rattle.bitset.specs.Sets.{any, has}
 use Rattle.bitset.proofs.Tests.{and-in}
-use Rattle.bitset.proofs.Below.{any-in, any-none}
+use Rattle.bitset.proofs.Below.{any-in, any-none, any-cong}
+use Rattle.bitset.proofs.Bits.{has-and}
 use Rattle.semiautomata.proofs.Successors.{edge-is}
 use Rattle.lookahead.specs.Rows.{after, pair}
 use Rattle.lookahead.specs.Rounds.{leadsBy, leads, Leads}
@@ -25,3 +27,12 @@ module _ (n m : ℕ) (sets rows : List ℕ) (s t : ℕ) where
   pub leads-none : ((a : ℕ) → a < m → leadsBy n m sets rows s t a ≡ false) → leads n m sets rows s t ≡ false
   unfolding leads
   leads-none f = any-none m _ f
+
+-- no member of a set lives with a row of which none does among those that the row has
+again : (a b : Bool) → ((a && b) && b) ≡ (a && b)
+again true true = refl
+again true false = refl
+again false b = refl
+
+pub met-none : (n set row : ℕ) → any n (λ u. has (bitAnd set row) u && has row u) ≡ false → any n (λ u. has set u && has row u) ≡ false
+met-none n set row e = any-cong n _ _ (λ u _. rw (has-and set row u) (sym (again (has set u) (has row u)))) ∙ e

@@ -36,7 +36,8 @@ pub fn lead(sets: &[u64], n: usize, m: usize, rows: &[u64; 64], s: usize, t: usi
         'firsts: while firsts != 0 {
             let r = u64::trailing_zeros(firsts) as usize;
             let row = rows[r];
-            let mut seconds = from_t;
+            // only states that live with r
+            let mut seconds = from_t & row;
             'seconds: while seconds != 0 {
                 let u = u64::trailing_zeros(seconds) as usize;
                 if (row >> u) & 1 == 1 {

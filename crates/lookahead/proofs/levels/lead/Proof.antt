@@ -6,21 +6,23 @@ use mathlib.Core.Path.{_≡_, refl, sym, _∙_}
 use native.Mathlib.Omega.{arith}
 use borrow.Author.Count.{below-more}
 use borrow.Author.Tests.{eq-eqb, ne-eqb}
+use lib.Bits.{bitAnd}
 use lib.ListN.{length}
 use Rattle.bitset.specs.Sets.{any, has}
-use Rattle.bitset.proofs.Bits.{has-test}
+use Rattle.bitset.proofs.Tests.{and-out}
+use Rattle.bitset.proofs.Bits.{has-and, has-test, and-fits}
 use Rattle.bitset.proofs.Members.{strike-less}
 use Rattle.bitset.proofs.Taking.{Left, left-first, left-next, least-below, least-in, Passed, passed-first, passed-next, passed-all}
 use Rattle.semiautomata.specs.Successors.{place}
 use Rattle.lookahead.specs.Rows.{pair}
 use Rattle.lookahead.specs.Rounds.{leadsBy}
 use Rattle.lookahead.proofs.Places.{place-in, place-fits}
-use Rattle.lookahead.proofs.Leading.{leads-hit, leads-none}
+use Rattle.lookahead.proofs.Leading.{leads-hit, leads-none, met-none}
 use Rattle.lookahead.proofs.levels.lead.Statement.{statement}
 use Rattle.lookahead.proofs.levels.lead.Tie as tie
 
 abbrev Inv₃ : tie.InvT-seconds
-Inv₃ sets n m rows s t step₀ a from-s from-t firsts r row seconds₀ step seconds = Left n from-t seconds × (step .found ≡ false) × Passed from-t seconds (has row)
+Inv₃ sets n m rows s t step₀ a from-s from-t firsts r row seconds₀ step seconds = Left n (bitAnd from-t row) seconds × (step .found ≡ false) × Passed (bitAnd from-t row) seconds (has row)
 
 abbrev μ₃ : tie.MeasureT-seconds
 μ₃ sets n m rows s t step₀ a from-s from-t firsts r row seconds₀ step seconds = seconds
@@ -99,7 +101,7 @@ seconds-holds : tie.Need-seconds-holds Inv₃ μ₃ Inv₂ μ₂ Inv₁ μ₁
 seconds-holds c =
     let k = c .before .before .before .before .before in
     let p = k .before .before .pre in
-    (left-first _ _ (p .0 .states) (place-fits (p .0) _ _ (p .2) (k .letters-test .taken)), c .before .before .firsts .inv .1, passed-first _ _)
+    (left-first _ _ (p .0 .states) (and-fits _ _ _ (place-fits (p .0) _ _ (p .2) (k .letters-test .taken))), c .before .before .firsts .inv .1, passed-first _ _)
 
 cast-u : tie.Need-cast-u Inv₃ μ₃ Inv₂ μ₂ Inv₁ μ₁
 cast-u c = omega (arith, least-below (c .before .seconds .inv .0) (some-second c), c .before .seconds .inv .0 .width)
@@ -130,7 +132,7 @@ firsts-again c =
     let i = c .before .before .before .before .firsts .inv in
     let j = c .before .seconds .inv in
     let p = some-first (c .before .before .before) in
-    (left-next (i .0) p, j .1, passed-next (i .0) p (passed-all (j .0) (c .seconds-test .left) (j .2)) (i .2))
+    (left-next (i .0) p, j .1, passed-next (i .0) p (met-none _ _ _ (passed-all (j .0) (c .seconds-test .left) (j .2))) (i .2))
 
 add-a : tie.Need-add-a Inv₃ μ₃ Inv₂ μ₂ Inv₁ μ₁
 add-a c = omega arith
@@ -157,7 +159,7 @@ returns-2 c =
     let j = c .before .before .seconds .inv .0 in
     let x = some-first f in
     let y = some-second (c .before) in
-    leads-hit _ _ _ _ _ _ (p .1) (p .2) (k .letters-test .taken) (least-below i x) (least-below j y) (least-in i x) (least-in j y) (sym (has-test _ _) ∙ eq-eqb _ 1 (c .if1 .taken))
+    leads-hit _ _ _ _ _ _ (p .1) (p .2) (k .letters-test .taken) (least-below i x) (least-below j y) (least-in i x) (and-out _ _ (sym (has-and _ _ _) ∙ least-in j y) .0) (sym (has-test _ _) ∙ eq-eqb _ 1 (c .if1 .taken))
 
 pub lead-spec : {M : Type 1} → statement M
 lead-spec =

@@ -1,0 +1,249 @@
+//! Benchmarks: the proved library and plain.rs side by side in one run, each call through the same interface of slices. Prints Markdown.
+
+use conformance::calls::{Calls, REFUSED};
+use conformance::families::{draft, ladder, odometer, Draft, Line};
+use conformance::library::Library;
+use conformance::plain::Plain;
+use conformance::random::Random;
+use std::hint::black_box;
+use std::time::Duration;
+
+/// One sample lasts about so long, and so many are taken of each side in turn.
+const SAMPLE: Duration = Duration::from_millis(20);
+const SAMPLES: usize = 15;
+/// Of an operation that takes longer than a sample.
+const FEW_SAMPLES: usize = 7;
+
+/// Linux's timespec and clock_gettime, which std links anyway.
+#[repr(C)]
+struct Timespec {
+    seconds: i64,
+    nanoseconds: i64,
+}
+
+extern "C" {
+    fn clock_gettime(clock: i32, time: *mut Timespec) -> i32;
+}
+
+/// The processor time of this thread in nanoseconds, so that other work on the machine counts little.
+fn now() -> u64 {
+    const THREAD_CPU_TIME: i32 = 3;
+    let mut time = Timespec { seconds: 0, nanoseconds: 0 };
+    // SAFETY: the pointer is to a timespec of our own
+    assert_eq!(unsafe { clock_gettime(THREAD_CPU_TIME, &mut time) }, 0);
+    time.seconds as u64 * 1_000_000_000 + time.nanoseconds as u64
+}
+
+/// Nanoseconds for one operation: the middle of the samples, and the quartiles.
+struct Time {
+    median: f64,
+    low: f64,
+    high: f64,
+}
+
+fn time_of(samples: &mut [f64]) -> Time {
+    samples.sort_by(f64::total_cmp);
+    Time { median: samples[samples.len() / 2], low: samples[samples.len() / 4], high: samples[samples.len() * 3 / 4] }
+}
+
+fn show(time: &Time) -> String {
+    let (unit, name) = if time.median < 1e3 {
+        (1.0, "ns")
+    } else if time.median < 1e6 {
+        (1e3, "µs")
+    } else {
+        (1e6, "ms")
+    };
+    format!("{:.1} {name} ({:.1} to {:.1})", time.median / unit, time.low / unit, time.high / unit)
+}
+
+/// Times `operation`, which does `count` operations, on both sides alternately.
+fn row(name: &str, count: usize, operation: &dyn Fn(&dyn Calls)) {
+    let sides: [&dyn Calls; 2] = [&Library { null_if_empty: false }, &Plain];
+    let mut samples = [Vec::new(), Vec::new()];
+    let rounds = sides.map(|side| {
+        operation(side);
+        let begun = now();
+        operation(side);
+        (SAMPLE.as_nanos() as u64 / (now() - begun).max(1)).clamp(1, 1_000_000) as usize
+    });
+    for _ in 0..if rounds[0] > 1 { SAMPLES } else { FEW_SAMPLES } {
+        for (i, side) in sides.iter().enumerate() {
+            let begun = now();
+            for _ in 0..rounds[i] {
+                operation(*side);
+            }
+            samples[i].push((now() - begun) as f64 / (rounds[i] * count) as f64);
+        }
+    }
+    let [library, plain] = samples.map(|mut samples| time_of(&mut samples));
+    println!("| {name} | {} | {} | {:.2} |", show(&library), show(&plain), plain.median / library.median);
+}
+
+/// The replies of both sides, which must be equal.
+fn agreed(operation: &dyn Fn(&dyn Calls) -> u32) -> u32 {
+    let library = operation(&Library { null_if_empty: false });
+    assert_eq!(library, operation(&Plain), "the library and plain.rs disagree");
+    library
+}
+
+fn says(reply: u32) -> String {
+    if reply >= REFUSED {
+        return format!("refused {}", reply - REFUSED);
+    }
+    format!("k {reply}")
+}
+
+/// Lines that lead from lower stakes to higher ones, `e` of them at random: always predictable.
+fn downhill(r: &mut Random, m: usize, e: usize) -> Draft {
+    let mut lines: Vec<Line> = Vec::new();
+    let mut seen = std::collections::HashSet::new();
+    while lines.len() < e {
+        let (a, b) = (r.below(64) as u8, r.below(64) as u8);
+        let line = (a, r.below(m) as u8, b);
+        if a < b && seen.insert(line) {
+            lines.push(line);
+        }
+    }
+    draft(64, m, &[0], &lines)
+}
+
+fn any_lines(r: &mut Random, m: usize, e: usize) -> Draft {
+    let mut seen = std::collections::HashSet::new();
+    let mut lines: Vec<Line> = Vec::new();
+    while lines.len() < e {
+        let line = (r.below(64) as u8, r.below(m) as u8, r.below(64) as u8);
+        if seen.insert(line) {
+            lines.push(line);
+        }
+    }
+    draft(64, m, &[0], &lines)
+}
+
+/// One line out of each stake by each code: k 0.
+fn deterministic(r: &mut Random, m: usize) -> Draft {
+    let lines: Vec<Line> = (0..64).flat_map(|s| (0..m as u8).map(move |c| (s, c, 0))).collect();
+    let lines = lines.into_iter().map(|(s, c, _)| (s, c, r.below(64) as u8)).collect::<Vec<_>>();
+    draft(64, m, &[0], &lines)
+}
+
+fn full_size(mut plan: Draft) -> Draft {
+    (plan.n, plan.m) = (64, 32);
+    plan
+}
+
+fn table_of(plan: &Draft) -> Vec<u64> {
+    let (mut table, mut letters, mut evidence) = (vec![0; 4 + plan.n * plan.m], vec![0; 4096], vec![0; 6]);
+    assert!(Plain.prepare(&plan.bytes(), &mut table, &mut letters, &mut evidence) < REFUSED);
+    table
+}
+
+/// A random walk that stays on the plan.
+fn walk_on(r: &mut Random, table: &[u64], length: usize) -> Vec<u8> {
+    let (m, mut set) = (table[1] as usize, table[3]);
+    let step = |set: u64, code: usize| (0..64).filter(|s| set >> s & 1 == 1).fold(0, |led_to, s| led_to | table[4 + s * m + code]);
+    let mut word = Vec::new();
+    for _ in 0..length {
+        let ways: Vec<(usize, u64)> = (0..m).map(|code| (code, step(set, code))).filter(|way| way.1 != 0).collect();
+        let (code, next) = r.pick(&ways);
+        set = next;
+        word.push(code as u8);
+    }
+    word
+}
+
+fn main() {
+    let mut r = Random::new(2007, 3);
+    println!("Processor time for one operation: the median of {SAMPLES} samples of some 20 ms ({FEW_SAMPLES} where one operation takes");
+    println!("longer), taken of both sides in turn, with the quartiles. The timed part is the calls alone, each with all its checks:");
+    println!("from plan bytes for read, count (gawherino_look_ahead) and prepare; from a table for a leg (8 on the whole table each time)");
+    println!("and a whole walk. A leg's time is that of opening and all legs (20,000 to 1,000,000), divided by their number.");
+    println!();
+    println!("| what | library | plain Rust | plain / library |");
+    println!("|---|---|---|---|");
+
+    let full = downhill(&mut r, 32, 4096).bytes();
+    let every: Vec<Line> = (0..64).flat_map(|from| (0..64).map(move |to| (from, 0, to))).collect();
+    let every = draft(64, 1, &[0], &every);
+    let small = draft(3, 1, &[0], &[(0, 0, 1), (1, 0, 1), (1, 0, 2)]).bytes();
+    for (name, plan) in
+        [("read, 4,096 lines over 64 × 32", &full), ("read, 4,096 lines over 64 × 1", &every.bytes()), ("read, plan A", &small)]
+    {
+        row(name, 1, &|calls| {
+            black_box(calls.read(black_box(plan), &mut [0; 3]));
+        });
+    }
+
+    let across: Vec<Line> = (0..32).flat_map(|from| (0..4).flat_map(move |code| (32..64).map(move |to| (from, code, to)))).collect();
+    let mut late_loop = odometer(32, 32);
+    // the last pair of the count goes on for ever: x 31 and y 31 share code 1
+    late_loop.lines.push((31, 1, 31));
+    let plans = [
+        ("dense, 4,096 lines downhill over 64 × 32", full.clone()),
+        ("dense, 4,096 lines downhill over 64 × 4", downhill(&mut r, 4, 4096).bytes()),
+        ("dense, 4,096 lines from half to half over 64 × 4", draft(64, 4, &[7], &across).bytes()),
+        ("sparse, 200 lines downhill over 64 × 4", downhill(&mut r, 4, 200).bytes()),
+        ("sparse, deterministic over 64 × 32", deterministic(&mut r, 32).bytes()),
+        ("ladder of 31 over 63 × 2", ladder(31, 2).bytes()),
+        ("long, two counters 9 × 9 over 18 × 4", odometer(9, 9).bytes()),
+        ("long, two counters 9 × 9 in 64 × 32", full_size(odometer(9, 9)).bytes()),
+        ("long, two counters 32 × 32 over 64 × 4", odometer(32, 32).bytes()),
+        ("unpredictable, all 4,096 lines over 64 × 1", every.bytes()),
+        ("unpredictable, 4,096 random lines over 64 × 32", any_lines(&mut r, 32, 4096).bytes()),
+        ("unpredictable, 150 random lines over 64 × 2", any_lines(&mut r, 2, 150).bytes()),
+        ("unpredictable, loop after 1,023 codes, 64 × 4", late_loop.bytes()),
+    ];
+    for (name, plan) in &plans {
+        let reply = agreed(&|calls| calls.look_ahead(plan, &mut [0; 4096], &mut [0; 6]));
+        row(&format!("count, {name}: {}", says(reply)), 1, &|calls| {
+            black_box(calls.look_ahead(black_box(plan), &mut [0; 4096], &mut [0; 6]));
+        });
+    }
+    for (name, plan) in [&plans[0], &plans[3], &plans[8]] {
+        let mut table = vec![0; 2052];
+        let reply = agreed(&|calls| calls.prepare(plan, &mut table.clone(), &mut [0; 4096], &mut [0; 6]));
+        let table = std::cell::RefCell::new(&mut table);
+        row(&format!("prepare, {name}: {}", says(reply)), 1, &|calls| {
+            black_box(calls.prepare(black_box(plan), &mut table.borrow_mut(), &mut [0; 4096], &mut [0; 6]));
+        });
+    }
+
+    let walks = [
+        ("k 0, 64 × 4", deterministic(&mut r, 4), 1_000_000),
+        ("k 0, 64 × 32", deterministic(&mut r, 32), 1_000_000),
+        ("k 1, 2 × 4", odometer(1, 1), 1_000_000),
+        ("k 1, 64 × 32", full_size(odometer(1, 1)), 1_000_000),
+        ("k 8, 6 × 4", odometer(2, 4), 1_000_000),
+        ("k 8, 64 × 32", full_size(odometer(2, 4)), 1_000_000),
+        ("k 72, 17 × 4", odometer(8, 9), 300_000),
+        ("k 72, 64 × 32", full_size(odometer(8, 9)), 300_000),
+        ("k 1,024, 64 × 4", odometer(32, 32), 20_000),
+    ];
+    for (name, plan, length) in &walks {
+        let table = table_of(plan);
+        let k = table[2] as usize;
+        let word = walk_on(&mut r, &table, *length);
+        let feed = |calls: &dyn Calls| {
+            let (mut rec, mut position, mut sum) = (vec![0; 8 + k], [0], 0u32);
+            calls.open(&table, &mut rec, &mut position);
+            for &code in &word {
+                let reply = calls.feed(black_box(&table), &mut rec, code, &mut position);
+                debug_assert!(reply < REFUSED);
+                sum = sum.wrapping_mul(31).wrapping_add(reply);
+            }
+            sum
+        };
+        agreed(&feed);
+        row(&format!("feed, a leg, {name}"), word.len(), &|calls| {
+            black_box(feed(calls));
+        });
+    }
+    for (name, plan, length) in &walks {
+        let table = table_of(plan);
+        let word = walk_on(&mut r, &table, *length);
+        let sets = std::cell::RefCell::new(vec![0; word.len() + 1]);
+        row(&format!("whole walk, a leg, {name}"), word.len(), &|calls| {
+            black_box(calls.walk(black_box(&table), &word, &mut sets.borrow_mut(), &mut [0]));
+        });
+    }
+}

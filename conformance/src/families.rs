@@ -1,0 +1,102 @@
+//! Plans as lists, their bytes, and families of plans whose count is known.
+
+pub type Line = (u8, u8, u8);
+
+/// A plan as a list of starts and lines, before it is bytes.
+#[derive(Clone, Debug, PartialEq, Eq)]
+pub struct Draft {
+    pub n: usize,
+    pub m: usize,
+    pub starts: Vec<u8>,
+    pub lines: Vec<Line>,
+}
+
+pub fn draft(n: usize, m: usize, starts: &[u8], lines: &[Line]) -> Draft {
+    Draft { n, m, starts: starts.to_vec(), lines: lines.to_vec() }
+}
+
+/// The header's eight numbers.
+pub fn header(numbers: [usize; 8]) -> Vec<u8> {
+    numbers.iter().flat_map(|&number| (number as u16).to_le_bytes()).collect()
+}
+
+impl Draft {
+    /// Plan bytes: the starts at 16, the lines behind them, no gaps.
+    pub fn bytes(&self) -> Vec<u8> {
+        let (p, e) = (self.starts.len(), self.lines.len());
+        let mut bytes = header([1, self.n, self.m, p, e, 16, 16 + p, 16 + p + 3 * e]);
+        bytes.extend(&self.starts);
+        bytes.extend(self.lines.iter().flat_map(|&(from, code, to)| [from, code, to]));
+        bytes
+    }
+}
+
+/// Theorem 5: a sequence of k = n(n-1)/2 pairs, and k codes of which each leads one pair to the next. n of 1 to 8 (28 codes).
+pub fn theorem_5(n: usize, pairs: &[(u8, u8)]) -> Draft {
+    if pairs.is_empty() {
+        return draft(n, 1, &[0], &[]);
+    }
+    let (r, s) = pairs[0];
+    let mut lines = vec![(r, 0, r), (r, 0, s)];
+    for (i, pair) in pairs.windows(2).enumerate() {
+        let code = i as u8 + 1;
+        lines.push((pair[0].0, code, pair[1].0));
+        lines.push((pair[0].1, code, pair[1].1));
+    }
+    draft(n, pairs.len(), &[r], &lines)
+}
+
+/// All pairs (i, j) with i < j < n in their order.
+pub fn all_pairs(n: u8) -> Vec<(u8, u8)> {
+    (0..n).flat_map(|i| (i + 1..n).map(move |j| (i, j))).collect()
+}
+
+/// Two counters that only together count to i × j: code 0 moves y on, code 1 takes y from its end to 0 and moves x on. Starts x 0 and y 0
+/// share exactly the words that begin the count, so k = i × j (Remark 7's number for i + j stakes). Codes 2, from every x, and 3, from
+/// every y, fork back to both starts, so that walks go on for ever and meet the doubt again and again.
+pub fn odometer(i: usize, j: usize) -> Draft {
+    let (x, y) = (|a: usize| a as u8, |b: usize| (i + b) as u8);
+    let mut lines = Vec::new();
+    for a in 0..i {
+        lines.push((x(a), 0, x(a)));
+        if a + 1 < i {
+            lines.push((x(a), 1, x(a + 1)));
+        }
+        lines.extend([(x(a), 2, x(0)), (x(a), 2, y(0))]);
+    }
+    for b in 0..j {
+        if b + 1 < j {
+            lines.push((y(b), 0, y(b + 1)));
+        } else {
+            lines.push((y(b), 1, y(0)));
+        }
+        lines.extend([(y(b), 3, x(0)), (y(b), 3, y(0))]);
+    }
+    draft(i + j, 4, &[x(0), y(0)], &lines)
+}
+
+/// One code: a stake with a loop and a line to a chain of the other stakes. k = n-1 for n of 2 or more (Proposition 6, Fig. 10).
+pub fn unary_chain(n: usize) -> Draft {
+    let mut lines = vec![(0, 0, 0)];
+    lines.extend((0..n as u8 - 1).map(|s| (s, 0, s + 1)));
+    draft(n, 1, &[0], &lines)
+}
+
+/// Two rails of `length` stakes that are walked by the same codes and never meet; only the first goes back to the fork. k = length.
+pub fn ladder(length: usize, codes: usize) -> Draft {
+    let mut lines = Vec::new();
+    let rail = |rail: usize, step: usize| (1 + rail * length + step) as u8;
+    lines.extend([(0, 0, rail(0, 0)), (0, 0, rail(1, 0))]);
+    for side in 0..2 {
+        for step in 0..length - 1 {
+            for code in 0..codes {
+                lines.push((rail(side, step), code as u8, rail(side, step + 1)));
+            }
+        }
+    }
+    lines.push((rail(0, length - 1), 0, 0));
+    if codes > 1 {
+        lines.push((rail(1, length - 1), 1, 0));
+    }
+    draft(1 + 2 * length, codes, &[0], &lines)
+}

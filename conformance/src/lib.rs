@@ -1,0 +1,13 @@
+//! A second implementation of the library, written from the documents by other means, and what compares the two.
+
+pub mod batch;
+pub mod calls;
+pub mod cases;
+pub mod families;
+#[cfg(feature = "library")]
+pub mod library;
+pub mod plain;
+pub mod random;
+pub mod reference;
+pub mod shrink;
+pub mod tally;

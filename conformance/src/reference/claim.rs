@@ -1,0 +1,81 @@
+//! Evidence under 15: the check of a claim, and true claims to try it on (which evidence is given is free, so these are only examples).
+
+use super::lookahead::{Pairs, Shared};
+use super::plan::Plan;
+use super::walk::reach;
+use super::{members, Stakes};
+
+/// The check of a claim: six numbers (the critical set's stake and code, stakes s and t, the lengths of lead-in and loop) and codes.
+pub fn holds(plan: &Plan, claim: &[u32], letters: &[u8]) -> bool {
+    if claim.len() < 6 {
+        return false;
+    }
+    let [stake, code, s, t, lead, turn] = [claim[0], claim[1], claim[2], claim[3], claim[4], claim[5]];
+    // the critical set, and stakes s < t of it
+    let Some(set) = plan.named(stake, code) else {
+        return false;
+    };
+    let is_member = |stake: u32| (stake as usize) < plan.n && set[stake as usize];
+    if !(s < t && is_member(s) && is_member(t)) {
+        return false;
+    }
+    // the loop has at least one code, and both lengths together are at most n × n
+    let (lead, turn) = (lead as u128, turn as u128);
+    if turn < 1 || lead + turn > (plan.n * plan.n) as u128 {
+        return false;
+    }
+    // the claim's codes must not end before its lengths do; codes past the lengths are not read
+    let (lead, turn) = (lead as usize, turn as usize);
+    if letters.len() < lead + turn {
+        return false;
+    }
+    let word = &letters[..lead + turn];
+    if word.iter().any(|&code| code as usize >= plan.m) {
+        return false;
+    }
+    // some stake is reached from s by the lead-in and led back to itself by the loop, and the same holds for t
+    let goes_round = |from: u32| {
+        let mut only: Stakes = vec![false; plan.n];
+        only[from as usize] = true;
+        members(&reach(plan, &only, &word[..lead])).into_iter().any(|x| {
+            let mut at_x: Stakes = vec![false; plan.n];
+            at_x[x] = true;
+            reach(plan, &at_x, &word[lead..])[x]
+        })
+    };
+    goes_round(s) && goes_round(t)
+}
+
+/// A true claim for a plan without k, by a walk over pairs that share endless words until one pair comes again; `choose` picks one of
+/// so many ways to go on.
+pub fn example(plan: &Plan, choose: &mut dyn FnMut(usize) -> usize) -> Option<([u32; 6], Vec<u8>)> {
+    let mut pairs = Pairs::new(plan);
+    let mut rivals = Vec::new();
+    for (name, set) in plan.critical_sets() {
+        for &s in &members(&set) {
+            for &t in &members(&set) {
+                if s < t && pairs.longest(s, t) == Shared::Endless {
+                    rivals.push((name, s, t));
+                }
+            }
+        }
+    }
+    if rivals.is_empty() {
+        return None;
+    }
+    let (name, s, t) = rivals[choose(rivals.len())];
+    let mut seen = vec![(s, t)];
+    let mut codes = Vec::new();
+    loop {
+        let (x, y) = *seen.last().expect("begins with a pair");
+        let edges = pairs.edges(x, y);
+        let ways: Vec<_> = edges.into_iter().filter(|&(_, x, y)| pairs.longest(x, y) == Shared::Endless).collect();
+        let (code, x, y) = ways[choose(ways.len())];
+        codes.push(code as u8);
+        if let Some(lead) = seen.iter().position(|&pair| pair == (x, y)) {
+            let claim = [name.0, name.1, s as u32, t as u32, lead as u32, (codes.len() - lead) as u32];
+            return Some((claim, codes));
+        }
+        seen.push((x, y));
+    }
+}

@@ -1,0 +1,100 @@
+//! The count: the longest word that two stakes share is a longest path over the graph of pairs, and endless if a loop can be reached.
+
+use super::members;
+use super::plan::Plan;
+
+/// How long the longest word is that two stakes share.
+#[derive(Clone, Copy, Debug, PartialEq, Eq)]
+pub enum Shared {
+    Codes(usize),
+    Endless,
+}
+
+#[derive(Clone, Copy)]
+enum Mark {
+    New,
+    Begun,
+    Known(Shared),
+}
+
+/// The graph of ordered pairs of stakes: an edge for each code that leads both on. The two stakes may meet and then go on as one.
+pub struct Pairs {
+    n: usize,
+    m: usize,
+    /// at stake × m + code: the stakes led to
+    next: Vec<Vec<usize>>,
+    marks: Vec<Mark>,
+}
+
+impl Pairs {
+    pub fn new(plan: &Plan) -> Pairs {
+        let mut next = vec![Vec::new(); plan.n * plan.m];
+        for code in 0..plan.m {
+            for &(from, to) in &plan.lines[code] {
+                next[from * plan.m + code].push(to);
+            }
+        }
+        Pairs { n: plan.n, m: plan.m, next, marks: vec![Mark::New; plan.n * plan.n] }
+    }
+
+    /// The edges out of a pair: code and next pair.
+    pub fn edges(&self, s: usize, t: usize) -> Vec<(usize, usize, usize)> {
+        let mut edges = Vec::new();
+        for code in 0..self.m {
+            for &x in &self.next[s * self.m + code] {
+                for &y in &self.next[t * self.m + code] {
+                    edges.push((code, x, y));
+                }
+            }
+        }
+        edges
+    }
+
+    /// The longest word that both stakes can walk. A pair that is met again while it is being looked at lies on a loop.
+    pub fn longest(&mut self, s: usize, t: usize) -> Shared {
+        match self.marks[s * self.n + t] {
+            Mark::Known(shared) => return shared,
+            Mark::Begun => return Shared::Endless,
+            Mark::New => self.marks[s * self.n + t] = Mark::Begun,
+        }
+        let mut longest = Shared::Codes(0);
+        'codes: for code in 0..self.m {
+            for i in 0..self.next[s * self.m + code].len() {
+                for j in 0..self.next[t * self.m + code].len() {
+                    let (x, y) = (self.next[s * self.m + code][i], self.next[t * self.m + code][j]);
+                    match (longest, self.longest(x, y)) {
+                        (_, Shared::Endless) => {
+                            longest = Shared::Endless;
+                            break 'codes;
+                        }
+                        (Shared::Codes(known), Shared::Codes(rest)) => longest = Shared::Codes(known.max(rest + 1)),
+                        (Shared::Endless, _) => unreachable!("left above"),
+                    }
+                }
+            }
+        }
+        self.marks[s * self.n + t] = Mark::Known(longest);
+        longest
+    }
+}
+
+/// k: the least number for which no two different stakes of one critical set share a word of k codes; none if there is no such number.
+pub fn look_ahead(plan: &Plan) -> Option<usize> {
+    let mut pairs = Pairs::new(plan);
+    let mut k = 0;
+    for (_, set) in plan.critical_sets() {
+        let stakes = members(&set);
+        for &s in &stakes {
+            for &t in &stakes {
+                if s < t {
+                    match pairs.longest(s, t) {
+                        Shared::Endless => return None,
+                        // the longest shared word has k-1 codes
+                        Shared::Codes(longest) => k = k.max(longest + 1),
+                    }
+                }
+            }
+        }
+    }
+    Some(k)
+}

@@ -1,0 +1,42 @@
+//! The reference: document 01 and the paper (003) in the plainest Rust. A set is a vector of booleans, a plan the list of its lines,
+//! a refusal is given where its sentence stands. Nothing here is fast, and nothing here calls the library.
+
+pub mod calls;
+pub mod claim;
+pub mod lookahead;
+pub mod plan;
+pub mod record;
+pub mod report;
+pub mod table;
+pub mod walk;
+
+/// A refusal: document 01's number, and which part of its sentence applied.
+#[derive(Clone, Copy, Debug, PartialEq, Eq)]
+pub struct Refusal {
+    pub number: u32,
+    pub why: &'static str,
+}
+
+pub fn refuse<T>(number: u32, why: &'static str) -> Result<T, Refusal> {
+    Err(Refusal { number, why })
+}
+
+/// A set of stakes: one boolean for each.
+pub type Stakes = Vec<bool>;
+
+pub fn size(set: &[bool]) -> usize {
+    set.iter().filter(|&&is_in| is_in).count()
+}
+
+pub fn members(set: &[bool]) -> Vec<usize> {
+    (0..set.len()).filter(|&s| set[s]).collect()
+}
+
+/// "A set is a 64-bit number, bit s for stake s."
+pub fn to_number(set: &[bool]) -> u64 {
+    members(set).iter().map(|&s| 2u64.pow(s as u32)).sum()
+}
+
+pub fn from_number(number: u64, n: usize) -> Stakes {
+    (0..n).map(|s| number >> s & 1 == 1).collect()
+}

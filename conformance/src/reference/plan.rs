@@ -1,0 +1,147 @@
+//! Plan bytes: refusals 1 to 7 in their order, and the plan that the bytes mean.
+
+use super::{refuse, Refusal, Stakes};
+use std::collections::BTreeSet;
+
+/// A semiautomaton: for each code its lines, as (from, to).
+#[derive(Clone, Debug)]
+pub struct Plan {
+    pub n: usize,
+    pub m: usize,
+    pub starts: Stakes,
+    pub lines: Vec<Vec<(usize, usize)>>,
+}
+
+/// What reading answers, and the plan that was read.
+#[derive(Debug)]
+pub struct Read {
+    pub plan: Plan,
+    pub p: usize,
+    pub e: usize,
+}
+
+impl Plan {
+    /// The stakes that lines from one stake with one code lead to.
+    pub fn fork(&self, stake: usize, code: usize) -> Stakes {
+        let mut set = vec![false; self.n];
+        for &(from, to) in &self.lines[code] {
+            if from == stake {
+                set[to] = true;
+            }
+        }
+        set
+    }
+
+    /// Every critical set with its name: the starts as (255, 0), then the forks that are not empty.
+    pub fn critical_sets(&self) -> Vec<((u32, u32), Stakes)> {
+        let mut sets = vec![((255, 0), self.starts.clone())];
+        for stake in 0..self.n {
+            for code in 0..self.m {
+                if self.lines[code].iter().any(|&(from, _)| from == stake) {
+                    sets.push(((stake as u32, code as u32), self.fork(stake, code)));
+                }
+            }
+        }
+        sets
+    }
+
+    /// The set that a caller names by stake and code, 255 and 0 being the starts; none if a number is off the plan.
+    pub fn named(&self, stake: u32, code: u32) -> Option<Stakes> {
+        if stake == 255 && code == 0 {
+            return Some(self.starts.clone());
+        }
+        if (stake as usize) < self.n && (code as usize) < self.m {
+            return Some(self.fork(stake as usize, code as usize));
+        }
+        None
+    }
+}
+
+/// Reading a plan: n, m, p and e, and what the bytes mean.
+pub fn read(bytes: &[u8]) -> Result<Read, Refusal> {
+    // 1: fewer than 16 bytes, or total not the byte count
+    if bytes.len() < 16 {
+        return refuse(1, "fewer than 16 bytes");
+    }
+    let number = |place: usize| bytes[2 * place] as usize + 256 * bytes[2 * place + 1] as usize;
+    let (edition, n, m, p, e) = (number(0), number(1), number(2), number(3), number(4));
+    let (starts_at, lines_at, total) = (number(5), number(6), number(7));
+    if total != bytes.len() {
+        return refuse(1, "total not the byte count");
+    }
+    // 2: edition not 1
+    if edition != 1 {
+        return refuse(2, "edition");
+    }
+    // 3: a count out of range
+    if !(1..=64).contains(&n) {
+        return refuse(3, "n out of range");
+    }
+    if !(1..=32).contains(&m) {
+        return refuse(3, "m out of range");
+    }
+    if p > n {
+        return refuse(3, "p out of range");
+    }
+    if e > 4096 {
+        return refuse(3, "e out of range");
+    }
+    // 4: a part misplaced. Each part, an empty one too, begins at 16 or later and ends no later than the total.
+    if starts_at < 16 {
+        return refuse(4, "starts before 16");
+    }
+    if starts_at + p > total {
+        return refuse(4, "starts past the total");
+    }
+    if lines_at < 16 {
+        return refuse(4, "lines before 16");
+    }
+    if lines_at + 3 * e > total {
+        return refuse(4, "lines past the total");
+    }
+    // Two non-empty parts don't overlap: no byte belongs to both. An empty part has no byte.
+    let part_of_lines = lines_at..lines_at + 3 * e;
+    if (starts_at..starts_at + p).any(|place| part_of_lines.contains(&place)) {
+        return refuse(4, "parts overlap");
+    }
+    // 5: a start not below n, or twice
+    let mut starts = vec![false; n];
+    for place in starts_at..starts_at + p {
+        let stake = bytes[place] as usize;
+        if stake >= n {
+            return refuse(5, "a start not below n");
+        }
+        if starts[stake] {
+            return refuse(5, "a start twice");
+        }
+        starts[stake] = true;
+    }
+    // 6: a line's number not below its count
+    let triples: Vec<(usize, usize, usize)> = (0..e)
+        .map(|line| {
+            let place = lines_at + 3 * line;
+            (bytes[place] as usize, bytes[place + 1] as usize, bytes[place + 2] as usize)
+        })
+        .collect();
+    for &(from, code, to) in &triples {
+        if from >= n {
+            return refuse(6, "from not below n");
+        }
+        if code >= m {
+            return refuse(6, "code not below m");
+        }
+        if to >= n {
+            return refuse(6, "to not below n");
+        }
+    }
+    // 7: a line twice
+    let different: BTreeSet<_> = triples.iter().collect();
+    if different.len() < triples.len() {
+        return refuse(7, "a line twice");
+    }
+    let mut lines = vec![Vec::new(); m];
+    for &(from, code, to) in &triples {
+        lines[code].push((from, to));
+    }
+    Ok(Read { plan: Plan { n, m, starts, lines }, p, e })
+}

@@ -1,0 +1,75 @@
+//! The report, from whole walks: what is booked and what is open is read off the possible stakes of the walk that the legs make.
+
+use super::lookahead::look_ahead;
+use super::plan::read;
+use super::walk::{possible, step};
+use super::{members, size};
+
+/// "number and group, author, caller or logger"
+pub fn refused(number: u32) -> String {
+    let group = match number {
+        1..=7 | 15 => "author",
+        8..=10 | 14 => "caller",
+        11..=13 => "logger",
+        _ => unreachable!("no such refusal"),
+    };
+    format!("refused {number} {group}\n")
+}
+
+pub fn report(input: &[u8]) -> String {
+    // refusal 1 here: fewer than 16 bytes, a total below 16, or fewer bytes than the total
+    if input.len() < 16 {
+        return refused(1);
+    }
+    let total = input[14] as usize + 256 * input[15] as usize;
+    if total < 16 || input.len() < total {
+        return refused(1);
+    }
+    let (plan, p, e) = match read(&input[..total]) {
+        Ok(read) => (read.plan, read.p, read.e),
+        Err(refusal) => return refused(refusal.number),
+    };
+    let mut text = format!("stakes {} codes {} starts {p} lines {e}\n", plan.n, plan.m);
+    let Some(k) = look_ahead(&plan) else {
+        return text + &refused(15);
+    };
+    text += &format!("look-ahead {k}\n");
+    if size(&plan.starts) == 0 {
+        return text + &refused(13);
+    }
+    // the legs that are taken, and what ended the walk
+    let mut reached = plan.starts.clone();
+    let mut taken = Vec::new();
+    let mut ended = String::new();
+    for &code in &input[total..] {
+        let refusal = if taken.len() == 1_000_000 {
+            11
+        } else if code as usize >= plan.m {
+            12
+        } else {
+            reached = step(&plan, &reached, code);
+            if size(&reached) > 0 {
+                taken.push(code);
+                continue;
+            }
+            13
+        };
+        ended = refused(refusal);
+        break;
+    }
+    let sets = possible(&plan, &plan.starts, &taken);
+    for (position, set) in sets.iter().enumerate() {
+        if position + k <= taken.len() {
+            assert_eq!(size(set), 1, "a position that is followed by k legs has one possible stake");
+            text += &format!("at {position} stake {}\n", members(set)[0]);
+        }
+    }
+    text += &ended;
+    for (position, set) in sets.iter().enumerate() {
+        if position + k > taken.len() {
+            let stakes: Vec<String> = members(set).iter().map(|stake| stake.to_string()).collect();
+            text += &format!("open {position} stakes {}\n", stakes.join(" "));
+        }
+    }
+    text
+}

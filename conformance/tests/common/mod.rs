@@ -1,0 +1,35 @@
+//! What the tests share: who is compared with the reference, and the settings by environment variable.
+#![allow(dead_code)]
+
+use conformance::calls::Calls;
+use conformance::plain::Plain;
+use conformance::reference::calls::Reference;
+
+/// Everyone who must answer as the documents say. The reference itself is among them, where answers are written from the documents.
+pub fn everyone() -> Vec<Box<dyn Calls>> {
+    vec![
+        Box::new(Reference),
+        Box::new(Plain),
+        #[cfg(feature = "library")]
+        Box::new(conformance::library::Library { null_if_empty: false }),
+        #[cfg(feature = "library")]
+        Box::new(conformance::library::Library { null_if_empty: true }),
+    ]
+}
+
+pub fn number(name: &str, default: u64) -> u64 {
+    match std::env::var(name) {
+        Ok(text) => text.parse().unwrap_or_else(|_| panic!("{name} is not a number: {text}")),
+        Err(_) => default,
+    }
+}
+
+/// GAWHERINO_SEED
+pub fn seed() -> u64 {
+    number("GAWHERINO_SEED", 20_070_003)
+}
+
+/// GAWHERINO_SECONDS: how long the random comparisons take, each.
+pub fn seconds() -> u64 {
+    number("GAWHERINO_SECONDS", 25)
+}

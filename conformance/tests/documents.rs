@@ -1,0 +1,386 @@
+//! The answers that the documents themselves write down: plans A to H, the examples of 003 whose lines its text gives, and the cases of
+//! document 01 that are only run. Each is put to the reference, to plain.rs and to the library.
+
+mod common;
+
+use conformance::calls::{Calls, NOTHING, REFUSED, STARTS};
+use conformance::cases::{compare, Case};
+use conformance::families::{all_pairs, draft, header, odometer, theorem_5, unary_chain, Draft, Line};
+use conformance::random::Random;
+use conformance::shrink::fail;
+
+/// A prepared plan, or the refusal.
+fn prepared(calls: &dyn Calls, plan: &Draft) -> Result<(u32, Vec<u64>), u32> {
+    let (mut table, mut letters, mut evidence) = (vec![0; 4 + plan.n * plan.m], vec![0; plan.n * plan.n], vec![0; 6]);
+    let reply = calls.prepare(&plan.bytes(), &mut table, &mut letters, &mut evidence);
+    if reply >= REFUSED {
+        return Err(reply - REFUSED);
+    }
+    Ok((reply, table))
+}
+
+/// k or the refusal, by all three calls that count, and by reading; under 15 the evidence is checked.
+fn counted(calls: &dyn Calls, plan: &Draft, expected: Result<u32, u32>, name: &str) {
+    let bytes = plan.bytes();
+    let (n, m) = (plan.n, plan.m);
+    for case in [
+        Case::Prepare { plan: bytes.clone(), table: 4 + n * m + 1, letters: n * n + 1, evidence: 7 },
+        Case::LookAhead { plan: bytes.clone(), letters: n * n, evidence: 6 },
+        Case::Count { plan: bytes.clone() },
+    ] {
+        if let Err(message) = compare(&case, calls) {
+            fail(&case, calls, message, name);
+        }
+    }
+    let number = match expected {
+        Ok(k) => k,
+        Err(refusal) => REFUSED + refusal,
+    };
+    assert_eq!(calls.count(&bytes), number, "{name} by the drawing entry of {}", calls.name());
+    assert_eq!(prepared(calls, plan).map(|(k, _)| k), expected, "{name} by preparing of {}", calls.name());
+    let mut counts = [0; 3];
+    assert_eq!(calls.read(&bytes, &mut counts), n as u32, "{name}");
+    assert_eq!(counts, [m as u32, plan.starts.len() as u32, plan.lines.len() as u32], "{name}");
+}
+
+fn set(stakes: &[u32]) -> u64 {
+    stakes.iter().fold(0, |set, stake| set | 1 << stake)
+}
+
+/// A whole walk: g and the sets at 0 to g.
+fn walked(calls: &dyn Calls, table: &[u64], word: &[u8]) -> Vec<u64> {
+    let (mut sets, mut g) = (vec![0; word.len() + 1], [0]);
+    assert_eq!(calls.walk(table, word, &mut sets, &mut g), 0);
+    sets.truncate(g[0] as usize + 1);
+    sets
+}
+
+/// A verdict: minimal selector or not, who can walk the word, for whom it is a maximal nonselector.
+fn judged(calls: &dyn Calls, table: &[u64], state: u32, letter: u32, word: &[u8]) -> (bool, u64, u64) {
+    let mut sets = [0; 2];
+    let reply = calls.judge(table, state, letter, word, &mut sets);
+    assert!(reply <= 1);
+    (reply == 1, sets[0], sets[1])
+}
+
+fn plan_a() -> Draft {
+    draft(3, 1, &[0], &[(0, 0, 1), (1, 0, 1), (1, 0, 2)])
+}
+
+fn plan_c() -> Draft {
+    draft(4, 2, &[0, 1], &[(0, 0, 2), (1, 0, 2), (2, 1, 3)])
+}
+
+#[test]
+fn plans_a_to_h() {
+    let mut with_loop = plan_c();
+    with_loop.lines.push((3, 1, 3));
+    let rows: [(&str, Draft, Result<u32, u32>); 8] = [
+        ("A", plan_a(), Ok(1)),
+        ("B", draft(2, 1, &[0], &[(0, 0, 0), (0, 0, 1), (1, 0, 1)]), Err(15)),
+        ("C", plan_c(), Ok(3)),
+        ("D", draft(3, 1, &[0], &[(0, 0, 0), (1, 0, 1), (1, 0, 2), (2, 0, 2)]), Err(15)),
+        ("E", draft(1, 1, &[], &[]), Ok(0)),
+        ("F", draft(2, 1, &[0, 1], &[]), Ok(1)),
+        ("G", draft(3, 2, &[0, 1], &[(0, 0, 1), (1, 0, 2), (1, 1, 0), (2, 1, 2)]), Ok(3)),
+        ("H", with_loop, Err(15)),
+    ];
+    for calls in common::everyone() {
+        let calls = calls.as_ref();
+        for (name, plan, expected) in &rows {
+            counted(calls, plan, *expected, name);
+        }
+        // A: "In {1,2} the empty word is a maximal nonselector of 2 only; word 0 is a minimal selector of 1."
+        let (_, table) = prepared(calls, &plan_a()).expect("k 1");
+        assert_eq!(judged(calls, &table, 1, 0, &[]), (false, set(&[1, 2]), set(&[2])));
+        assert_eq!(judged(calls, &table, 1, 0, &[0]), (true, set(&[1]), 0));
+        assert_eq!(table, [3, 1, 1, 0b001, 0b010, 0b110, 0]);
+        // C: "Walk 0 1: {0,1}, {2}, {3}."
+        let (_, table) = prepared(calls, &plan_c()).expect("k 3");
+        assert_eq!(walked(calls, &table, &[0, 1]), [set(&[0, 1]), set(&[2]), set(&[3])]);
+        // E: opening 13
+        let (_, table) = prepared(calls, &rows[4].1).expect("k 0");
+        assert_eq!(calls.open(&table, &mut [0; 8], &mut [0]), REFUSED + 13);
+        // F: the empty walk has {0,1}
+        let (_, table) = prepared(calls, &rows[5].1).expect("k 1");
+        assert_eq!(walked(calls, &table, &[]), [set(&[0, 1])]);
+    }
+}
+
+#[test]
+fn plan_a_as_the_document_writes_it() {
+    let bytes = [1, 0, 3, 0, 1, 0, 1, 0, 3, 0, 0x10, 0, 0x11, 0, 0x1A, 0, 0, 0, 0, 1, 1, 0, 1, 1, 0, 2];
+    assert_eq!(plan_a().bytes(), bytes);
+    for calls in common::everyone() {
+        let (_, table) = prepared(calls.as_ref(), &plan_a()).expect("k 1");
+        let (mut rec, mut position) = ([0xEE; 10], [77]);
+        // the sample's legs 00 00 00 book 0, 1, 1 at 0, 1, 2 and leave 3 open with 1 and 2
+        assert_eq!(calls.open(&table, &mut rec, &mut position), NOTHING);
+        assert_eq!((rec, position), ([0, 0, 0, 0, 255, 0, 0, 0, 0, 0xEE], [77]));
+        for (at, stake) in [(0, 0), (1, 1), (2, 1)] {
+            assert_eq!(calls.feed(&table, &mut rec, 0, &mut position), stake);
+            assert_eq!(position, [at]);
+            assert_eq!(rec, [at as u8 + 1, 0, 0, 0, stake as u8, 0, 1, 0, 0, 0xEE]);
+        }
+        let mut sets = [1 << 40, 1 << 41];
+        assert_eq!(calls.finish(&table, &rec, &mut sets), 1);
+        assert_eq!(sets, [set(&[1, 2]), 1 << 41]);
+    }
+}
+
+#[test]
+fn traps_of_document_01() {
+    // a loop that exchanges the two stakes still means 15
+    let exchange = draft(2, 1, &[0, 1], &[(0, 0, 1), (1, 0, 0)]);
+    // three stakes that share no word of some length may still share one of that length two by two
+    let by_twos = draft(4, 3, &[0, 1, 2], &[(0, 0, 3), (1, 0, 3), (1, 1, 3), (2, 1, 3), (0, 2, 3), (2, 2, 3)]);
+    // C renumbered so that a round in place goes wrong
+    let renumbered = draft(4, 2, &[2, 3], &[(2, 0, 1), (3, 0, 1), (1, 1, 0)]);
+    for calls in common::everyone() {
+        counted(calls.as_ref(), &exchange, Err(15), "exchange");
+        counted(calls.as_ref(), &by_twos, Ok(2), "two by two");
+        counted(calls.as_ref(), &renumbered, Ok(3), "C renumbered");
+    }
+}
+
+/// Example 1 with 2: Fig. 1 (a) is plan A with p, q, r as 0, 1, 2; Fig. 1 (b) forks to two stakes without lines.
+#[test]
+fn examples_1_and_2() {
+    let b = draft(3, 1, &[0], &[(0, 0, 1), (0, 0, 2)]);
+    for calls in common::everyone() {
+        let calls = calls.as_ref();
+        counted(calls, &plan_a(), Ok(1), "Fig. 1 (a)");
+        counted(calls, &b, Ok(1), "Fig. 1 (b)");
+        let (_, table) = prepared(calls, &plan_a()).expect("k 1");
+        // <<p, a>> = {q}: 1 is the only minimal q-selector, a* are selectors, there are no nonselectors
+        assert_eq!(judged(calls, &table, 0, 0, &[]), (true, set(&[1]), 0));
+        assert_eq!(judged(calls, &table, 0, 0, &[0]), (false, set(&[1]), 0));
+        // T = {q, r}: the q-selectors are a+, and a is minimal
+        assert_eq!(judged(calls, &table, 1, 0, &[0, 0]), (false, set(&[1]), 0));
+        // (b): R_T = {1}; 1 is a maximal nonselector of q and of r, and there are no selectors
+        let (_, table) = prepared(calls, &b).expect("k 1");
+        assert_eq!(judged(calls, &table, 0, 0, &[]), (false, set(&[1, 2]), set(&[1, 2])));
+        assert_eq!(judged(calls, &table, 0, 0, &[0]), (false, 0, 0));
+    }
+}
+
+/// Fig. 7, q1 to q7 as 0 to 6, a and b as 0 and 1, and c, for which it has no edges, as 2. The lines are those that Examples 7, 8 and 10
+/// name; q5 has none, since 1 is its maximal nonselector.
+fn figure_7(starts: &[u8]) -> Draft {
+    let (a, b) = (0, 1);
+    let lines: [Line; 11] =
+        [(0, a, 1), (0, a, 2), (0, b, 0), (1, a, 3), (1, a, 4), (1, a, 5), (1, b, 5), (2, b, 6), (3, a, 0), (5, b, 4), (6, a, 0)];
+    draft(7, 3, starts, &lines)
+}
+
+fn word(text: &str) -> Vec<u8> {
+    text.bytes().map(|letter| letter - b'a').collect()
+}
+
+#[test]
+fn examples_7_8_and_10() {
+    for calls in common::everyone() {
+        let calls = calls.as_ref();
+        let plan = figure_7(&[0, 5]);
+        counted(calls, &plan, Ok(2), "Fig. 7 is 2-predictable");
+        let (_, table) = prepared(calls, &plan).expect("k 2");
+        // Example 7: minimal selectors and maximal nonselectors, and no others among all words of up to 4 letters
+        let sets: [((u32, u32), Vec<(&str, u32)>, Vec<(&str, u32)>); 3] = [
+            ((STARTS, 0), vec![("a", 0), ("ba", 0), ("bb", 0)], vec![("b", 5)]),
+            ((0, 0), vec![("a", 1), ("bb", 1), ("ba", 2)], vec![]),
+            ((1, 0), vec![("a", 3), ("b", 5)], vec![("", 4)]),
+        ];
+        let mut words = vec![String::new()];
+        for length in 0..4 {
+            let last: Vec<String> = words.iter().filter(|word| word.len() == length).cloned().collect();
+            words.extend(last.iter().flat_map(|word| ["a", "b", "c"].map(|letter| format!("{word}{letter}"))));
+        }
+        for ((state, letter), selectors, nonselectors) in &sets {
+            for text in &words {
+                let (minimal, can_walk, maximal) = judged(calls, &table, *state, *letter, &word(text));
+                let selected = selectors.iter().find(|(selector, _)| selector == text);
+                assert_eq!(minimal, selected.is_some(), "{text} in {state}, {letter}");
+                if let Some((_, stake)) = selected {
+                    assert_eq!(can_walk, set(&[*stake]), "{text}");
+                }
+                let last: Vec<u32> = nonselectors.iter().filter(|(word, _)| word == text).map(|(_, stake)| *stake).collect();
+                assert_eq!(maximal, set(&last), "{text}");
+            }
+        }
+        // "The empty word 1 is a minimal selector in each deterministic transition."
+        for (state, letter, to) in [(0, 1, 0), (1, 1, 5), (2, 1, 6), (3, 0, 0), (5, 1, 4), (6, 0, 0)] {
+            assert_eq!(judged(calls, &table, state, letter, &[]), (true, set(&[to]), 0));
+        }
+        // Example 8: aaababaab, whose last two positions stay open
+        let sets = walked(calls, &table, &word("aaababaab"));
+        let stakes: [&[u32]; 10] = [&[0], &[1], &[3], &[0], &[0], &[2], &[6], &[0], &[1, 2], &[5, 6]];
+        assert_eq!(sets, stakes.map(set));
+        // leg by leg: each position when the second later leg has come
+        let (mut rec, mut position) = (vec![0; 10], [0]);
+        assert_eq!(calls.open(&table, &mut rec, &mut position), NOTHING);
+        for (i, &code) in word("aaababaab").iter().enumerate() {
+            let reply = calls.feed(&table, &mut rec, code, &mut position);
+            if i == 0 {
+                assert_eq!(reply, NOTHING);
+            } else {
+                assert_eq!((reply, position[0] as usize), (stakes[i - 1][0], i - 1));
+            }
+        }
+        let mut open = [0; 2];
+        assert_eq!(calls.finish(&table, &rec, &mut open), 2);
+        assert_eq!(open, [set(&[1, 2]), set(&[5, 6])]);
+        // Example 10: abba has one path, q1 q2 q6 q5, and then stops
+        assert_eq!(walked(calls, &table, &word("abba")), [set(&[0]), set(&[1]), set(&[5]), set(&[4])]);
+        // "In general, the predictor of Fig. 7 has the following properties": the initial set by how the input begins
+        let begins: [(&[u8], &[(&str, &[u32])]); 3] = [
+            (&[0, 5], &[("", &[0, 5]), ("b", &[0, 5]), ("cab", &[0, 5]), ("bca", &[0, 5]), ("a", &[0]), ("baa", &[0]), ("bbb", &[0])]),
+            (&[1, 2], &[("", &[1, 2]), ("b", &[1, 2]), ("cab", &[1, 2]), ("bca", &[1, 2]), ("ab", &[1]), ("bb", &[1]), ("bac", &[2])]),
+            (&[3, 4, 5], &[("", &[3, 4, 5]), ("ca", &[3, 4, 5]), ("ac", &[3]), ("bc", &[5]), ("b", &[5])]),
+        ];
+        for (starts, walks) in begins {
+            let (_, table) = prepared(calls, &figure_7(starts)).expect("k 2");
+            for (text, stakes) in walks {
+                assert_eq!(walked(calls, &table, &word(text))[0], set(stakes), "{text} from {starts:?}");
+            }
+        }
+    }
+}
+
+#[test]
+fn example_11_and_theorem_5() {
+    let first = [(1, 2), (1, 3), (1, 4), (2, 3), (2, 4), (3, 4)];
+    let second = [(2, 3), (3, 4), (1, 4), (2, 4), (1, 3), (2, 1)];
+    let mut r = Random::new(common::seed(), 11);
+    for calls in common::everyone() {
+        let calls = calls.as_ref();
+        for pairs in [first, second] {
+            let pairs: Vec<(u8, u8)> = pairs.iter().map(|&(r, s)| (r - 1, s - 1)).collect();
+            counted(calls, &theorem_5(4, &pairs), Ok(6), "Example 11: both are 6-predictable");
+        }
+        for n in 1..=8u8 {
+            let bound = n as u32 * (n as u32 - 1) / 2;
+            for _ in 0..5 {
+                counted(calls, &theorem_5(n as usize, &all_pairs(n)), Ok(bound), "Theorem 5: (n^2 - n)/2 is reached");
+                let mut pairs = all_pairs(n);
+                r.shuffle(&mut pairs);
+                pairs.iter_mut().for_each(|pair| *pair = if r.percent(50) { (pair.1, pair.0) } else { *pair });
+                counted(calls, &theorem_5(n as usize, &pairs), Ok(bound), "Theorem 5 in any order");
+            }
+        }
+    }
+}
+
+/// Proposition 6 (one code, n - 1) and Remark 7 (two codes, n/2 × (n+1)/2), which the paper states of its figures 10 and 12.
+#[test]
+fn bounds_that_are_reached() {
+    for calls in common::everyone() {
+        let calls = calls.as_ref();
+        for n in [2, 3, 4, 9, 33, 64] {
+            counted(calls, &unary_chain(n), Ok(n as u32 - 1), "Fig. 10");
+            let chain: Vec<Line> = (0..n as u8 - 1).map(|s| (s, 0, s + 1)).collect();
+            counted(calls, &draft(n, 1, &[0, 1], &chain), Ok(n as u32 - 1), "Fig. 10 without its loop, states 1 and 2 initial");
+            counted(calls, &odometer(n / 2, n.div_ceil(2)), Ok((n / 2 * n.div_ceil(2)) as u32), "Remark 7's number");
+        }
+    }
+}
+
+#[test]
+fn sizes_that_are_only_run() {
+    for calls in common::everyone() {
+        let calls = calls.as_ref();
+        // n 64 and 65
+        counted(calls, &draft(64, 1, &[63], &[(63, 0, 62), (62, 0, 0)]), Ok(0), "n 64");
+        assert_eq!(calls.count(&draft(65, 1, &[0], &[]).bytes()), REFUSED + 3, "n 65");
+        // m 32 and 33
+        counted(calls, &draft(2, 32, &[0], &[(0, 31, 1), (0, 31, 0), (1, 30, 1)]), Ok(1), "m 32");
+        assert_eq!(calls.count(&draft(2, 33, &[0], &[]).bytes()), REFUSED + 3, "m 33");
+        // e 4,096: every line of 64 stakes with one code has no k; from the lower half to the upper with four codes has k 1
+        let every: Vec<Line> = (0..64).flat_map(|from| (0..64).map(move |to| (from, 0, to))).collect();
+        counted(calls, &draft(64, 1, &[0], &every), Err(15), "e 4,096");
+        let across: Vec<Line> = (0..32).flat_map(|from| (0..4).flat_map(move |code| (32..64).map(move |to| (from, code, to)))).collect();
+        counted(calls, &draft(64, 4, &[7], &across), Ok(1), "e 4,096 with k 1");
+        // e 4,097
+        let mut more = across.clone();
+        more.push((63, 0, 63));
+        let many = draft(64, 4, &[7], &more).bytes();
+        for case in [
+            Case::Read { plan: many.clone(), counts: 3 },
+            Case::Prepare { plan: many.clone(), table: 4 + 64 * 4, letters: 4096, evidence: 6 },
+            Case::LookAhead { plan: many.clone(), letters: 4096, evidence: 6 },
+            Case::Count { plan: many.clone() },
+            Case::Check { plan: many.clone(), claim: vec![255, 0, 0, 1, 0, 1], letters: vec![0] },
+        ] {
+            compare(&case, calls).unwrap_or_else(|message| fail(&case, calls, message, "e 4,097"));
+        }
+        assert_eq!(calls.count(&many), REFUSED + 3, "e 4,097");
+        // 0 starts
+        let none = draft(3, 2, &[], &[(0, 0, 1), (1, 1, 2)]);
+        counted(calls, &none, Ok(0), "0 starts");
+        let (_, table) = prepared(calls, &none).expect("k 0");
+        assert_eq!(calls.open(&table, &mut [0; 8], &mut [0]), REFUSED + 13);
+        assert_eq!(calls.walk(&table, &[], &mut [0], &mut [0]), REFUSED + 13);
+        let none = draft(3, 2, &[], &[(0, 0, 1), (0, 0, 2)]);
+        let (k, table) = prepared(calls, &none).expect("k 1");
+        assert_eq!((k, calls.open(&table, &mut [0; 9], &mut [0])), (1, REFUSED + 13));
+        // the greatest count that 64 stakes reach here, and an empty part inside the lines
+        counted(calls, &odometer(32, 32), Ok(1024), "k 1,024");
+        let mut inside = header([1, 2, 1, 0, 1, 17, 16, 19]);
+        inside.extend([0, 0, 1]);
+        assert_eq!(calls.count(&inside), 0);
+    }
+}
+
+/// "A whole walk on a prepared plan, of any length": more codes than a record takes legs, to the end and with a code off the plan last.
+#[test]
+fn a_whole_walk_of_more_than_a_million_legs() {
+    let circle = draft(3, 2, &[0], &[(0, 0, 1), (1, 0, 2), (2, 0, 0), (1, 1, 0)]);
+    for calls in common::everyone() {
+        let (_, table) = prepared(calls.as_ref(), &circle).expect("k 0");
+        let mut word = vec![0; 1_500_000];
+        let (mut sets, mut g) = (vec![0; word.len() + 2], [0]);
+        sets[word.len() + 1] = 77;
+        assert_eq!(calls.walk(&table, &word, &mut sets, &mut g), 0);
+        assert_eq!((g[0], sets[word.len() + 1]), (1_500_000, 77));
+        assert!(sets[..=word.len()].iter().enumerate().all(|(i, &set)| set == 1 << (i % 3)));
+        // off the plan two legs before the end: stake 0 has no code 1
+        word[1_499_997] = 1;
+        assert_eq!(calls.walk(&table, &word, &mut sets, &mut g), 0);
+        assert_eq!(g[0], 1_499_997);
+        word[1_499_999] = 2;
+        g[0] = 5;
+        assert_eq!((calls.walk(&table, &word, &mut sets, &mut g), g[0]), (REFUSED + 12, 5));
+    }
+}
+
+/// Leg 1,000,000 and the next: on plan A, on a plan with k 0 and on one with k 6.
+#[test]
+fn a_million_legs() {
+    let circle = draft(3, 2, &[0], &[(0, 0, 1), (1, 0, 2), (2, 0, 0), (1, 1, 0)]);
+    for (i, calls) in common::everyone().iter().enumerate() {
+        // all three plans on the library; the others take their time, and one plan is enough for them
+        let plans = [(plan_a(), 1), (circle.clone(), 1), (odometer(2, 3), 4)];
+        for (plan, codes) in plans.into_iter().take(if i == 2 { 3 } else { 1 }) {
+            let mut r = Random::new(common::seed(), 1_000_000);
+            let mut legs: Vec<u8> = Vec::new();
+            let mut at = 0;
+            // a walk that never leaves the plan: code 0 everywhere, and for the counters 0 or 2 on the x side
+            for _ in 0..1_000_000 {
+                legs.push(if codes == 4 && r.percent(30) { 2 } else { 0 });
+                at += 1;
+                if at % 100_000 == 99 {
+                    // refused legs take no place
+                    legs.push(plan.m as u8);
+                }
+            }
+            legs.extend([0, 255, 0]);
+            let case = Case::Session { plan: plan.bytes(), legs, extra: 2 };
+            match compare(&case, calls.as_ref()) {
+                Ok(met) => {
+                    assert!(met.contains(&"session of 1,000,000 legs".to_string()), "{met:?}");
+                    assert!(met.contains(&"session with refused legs 11".to_string()), "{met:?}");
+                }
+                Err(message) => panic!("{} on {plan:?}: {}", calls.name(), message.chars().take(2000).collect::<String>()),
+            }
+        }
+    }
+}

@@ -1,0 +1,200 @@
+//! The report program (GAWHERINO_REPORT, else ../target/bin/report): what it writes on standard output against the reference's report.
+
+mod common;
+
+use conformance::families::{draft, odometer, Draft};
+use conformance::random::{self, Random};
+use conformance::reference::plan::read;
+use conformance::reference::report::report;
+use std::io::Write;
+use std::path::PathBuf;
+use std::process::{Command, Stdio};
+use std::time::{Duration, Instant};
+
+fn program() -> PathBuf {
+    let path = match std::env::var_os("GAWHERINO_REPORT") {
+        Some(path) => PathBuf::from(path),
+        None => PathBuf::from(env!("CARGO_MANIFEST_DIR")).join("../target/bin/report"),
+    };
+    assert!(path.is_file(), "there is no {}: run `rt check report` in the repository first, or set GAWHERINO_REPORT", path.display());
+    path
+}
+
+fn written(input: &[u8]) -> String {
+    let mut child = Command::new(program())
+        .stdin(Stdio::piped())
+        .stdout(Stdio::piped())
+        .stderr(Stdio::piped())
+        .spawn()
+        .expect("the report program can be started");
+    let mut stdin = child.stdin.take().expect("is piped");
+    let input = input.to_vec();
+    // the program may stop reading early, after a refusal
+    let writer = std::thread::spawn(move || drop(stdin.write_all(&input)));
+    let output = child.wait_with_output().expect("the report program ends");
+    writer.join().expect("writing does not panic");
+    assert!(output.status.success(), "the report program ended with {}: {}", output.status, String::from_utf8_lossy(&output.stderr));
+    String::from_utf8(output.stdout).expect("the report is text")
+}
+
+fn hex(bytes: &[u8]) -> String {
+    bytes.iter().map(|byte| format!("{byte:02x} ")).collect::<String>()
+}
+
+/// Compares one input, and on a difference looks for a smaller one by dropping legs.
+fn agree(input: &[u8], origin: &str) {
+    let differs = |input: &[u8]| written(input) != report(input);
+    if !differs(input) {
+        return;
+    }
+    let mut input = input.to_vec();
+    let mut piece = input.len() / 2;
+    let end = Instant::now() + Duration::from_secs(10);
+    while piece > 0 {
+        let mut from = if input.len() >= 16 { u16::from_le_bytes([input[14], input[15]]) as usize } else { 0 };
+        while from + piece <= input.len() && Instant::now() < end {
+            let shorter = [&input[..from], &input[from + piece..]].concat();
+            if differs(&shorter) {
+                input = shorter;
+            } else {
+                from += piece;
+            }
+        }
+        piece /= 2;
+    }
+    let short = |text: String| text.chars().take(3000).collect::<String>();
+    panic!(
+        "\nthe report differs ({origin}); the smallest input found, {} bytes:\n{}\nexpected:\n{}\nwritten:\n{}",
+        input.len(),
+        hex(&input[..input.len().min(3000)]),
+        short(report(&input)),
+        short(written(&input))
+    );
+}
+
+fn with_legs(plan: &Draft, legs: &[u8]) -> Vec<u8> {
+    [plan.bytes().as_slice(), legs].concat()
+}
+
+fn plan_a() -> Draft {
+    draft(3, 1, &[0], &[(0, 0, 1), (1, 0, 1), (1, 0, 2)])
+}
+
+const SAMPLE: &str = "stakes 3 codes 1 starts 1 lines 3\nlook-ahead 1\nat 0 stake 0\nat 1 stake 1\nat 2 stake 1\nopen 3 stakes 1 2\n";
+
+#[test]
+fn the_reference_writes_the_sample() {
+    assert_eq!(report(&with_legs(&plan_a(), &[0, 0, 0])), SAMPLE);
+}
+
+#[test]
+fn the_sample_of_document_01() {
+    assert_eq!(written(&with_legs(&plan_a(), &[0, 0, 0])), SAMPLE);
+}
+
+#[test]
+fn what_document_01_says_of_refusals() {
+    let a = plan_a().bytes();
+    // the only line for 1 to 7
+    for input in [&a[..0], &a[..1], &a[..15], &a[..16], &a[..25]] {
+        assert_eq!(written(input), "refused 1 author\n");
+    }
+    let changed = |place: usize, value: u8| {
+        let mut bytes = a.clone();
+        bytes[place] = value;
+        bytes
+    };
+    assert_eq!(written(&changed(14, 15)), "refused 1 author\n", "a total below 16");
+    assert_eq!(written(&changed(14, 0x1B)), "refused 1 author\n", "fewer bytes than the total");
+    assert_eq!(written(&changed(0, 2)), "refused 2 author\n");
+    assert_eq!(written(&changed(2, 65)), "refused 3 author\n");
+    assert_eq!(written(&changed(10, 15)), "refused 4 author\n");
+    assert_eq!(written(&changed(16, 3)), "refused 5 author\n");
+    assert_eq!(written(&changed(17, 3)), "refused 6 author\n");
+    assert_eq!(written(&changed(25, 1)), "refused 7 author\n");
+    // a total of 16 or more that is short of the bytes leaves legs, here one that is off the plan
+    assert_eq!(
+        written(&[a.as_slice(), &[9]].concat()),
+        "stakes 3 codes 1 starts 1 lines 3\nlook-ahead 1\nrefused 12 logger\nopen 0 stakes 0\n"
+    );
+    // for 15 it replaces line 2 and ends the report
+    let b = draft(2, 1, &[0], &[(0, 0, 0), (0, 0, 1), (1, 0, 1)]);
+    assert_eq!(written(&with_legs(&b, &[0, 0])), "stakes 2 codes 1 starts 1 lines 3\nrefused 15 author\n");
+    // at opening it is line 3 and the last
+    let e = draft(1, 1, &[], &[]);
+    assert_eq!(written(&with_legs(&e, &[0, 0])), "stakes 1 codes 1 starts 0 lines 0\nlook-ahead 0\nrefused 13 logger\n");
+    // on a leg it ends the walk, and the open lines follow; "after the word `stakes` even for one"
+    let c = draft(4, 2, &[0, 1], &[(0, 0, 2), (1, 0, 2), (2, 1, 3)]);
+    let text = "stakes 4 codes 2 starts 2 lines 3\nlook-ahead 3\nrefused 13 logger\nopen 0 stakes 0 1\nopen 1 stakes 2\nopen 2 stakes 3\n";
+    assert_eq!(written(&with_legs(&c, &[0, 1, 1, 0, 9])), text);
+    assert_eq!(report(&with_legs(&c, &[0, 1, 1, 0, 9])), text);
+    // with k 0 there is nothing open
+    let line = draft(2, 1, &[0], &[(0, 0, 1)]);
+    let text = "stakes 2 codes 1 starts 1 lines 1\nlook-ahead 0\nat 0 stake 0\nat 1 stake 1\nrefused 13 logger\n";
+    assert_eq!(written(&with_legs(&line, &[0, 0, 0])), text);
+    assert_eq!(report(&with_legs(&line, &[0, 0, 0])), text);
+}
+
+#[test]
+fn a_million_legs_and_the_next() {
+    let mut input = with_legs(&plan_a(), &vec![0; 1_000_000]);
+    agree(&input, "1,000,000 legs");
+    let long = written(&input);
+    assert!(long.ends_with("at 999999 stake 1\nopen 1000000 stakes 1 2\n"));
+    input.push(0);
+    agree(&input, "1,000,001 legs");
+    assert!(written(&input).ends_with("at 999999 stake 1\nrefused 11 logger\nopen 1000000 stakes 1 2\n"));
+    // 11 comes before 12
+    *input.last_mut().expect("has legs") = 200;
+    input.extend([0, 1, 2]);
+    assert!(written(&input).ends_with("at 999999 stake 1\nrefused 11 logger\nopen 1000000 stakes 1 2\n"));
+    agree(&input, "1,000,000 legs and more");
+}
+
+#[test]
+fn a_long_count() {
+    let plan = odometer(32, 32);
+    let bytes = plan.bytes();
+    let meaning = read(&bytes).expect("sound").plan;
+    let mut r = Random::new(common::seed(), 7);
+    for length in [0, 100, 1023, 1024, 1025, 1500] {
+        let legs = random::legs(&mut r, &meaning, length);
+        agree(&with_legs(&plan, &legs), "k 1,024");
+    }
+}
+
+#[test]
+fn random_plans_and_legs() {
+    let seed = common::seed();
+    let mut met = std::collections::BTreeMap::new();
+    let how_many = 15 * common::seconds().max(20);
+    for number in 0..how_many {
+        let mut r = Random::new(seed ^ 0x2E9, number);
+        let draft = random::plan(&mut r);
+        let mut input = random::layout(&mut r, &draft);
+        let meaning = read(&input).expect("sound").plan;
+        let length = r.pick(&[0, 1, 3, 10, 40, 150]);
+        let legs = random::legs(&mut r, &meaning, length);
+        if r.percent(35) {
+            let aim = r.among(2, 8) as u32;
+            random::damage(&mut r, &mut input, aim);
+        }
+        input.extend(&legs);
+        if r.percent(12) {
+            let end = r.below(input.len() + 1);
+            input.truncate(end);
+        }
+        let text = report(&input);
+        let kind = match text.lines().find(|line| line.starts_with("refused")) {
+            Some(line) => line.to_string(),
+            None if text.contains("\nopen") && text.contains("\nat") => "at and open".to_string(),
+            None => "at or open alone".to_string(),
+        };
+        *met.entry(kind).or_insert(0) += 1;
+        agree(&input, &format!("GAWHERINO_SEED={seed} input {number}"));
+    }
+    println!("{how_many} inputs: {met:?}");
+    for number in [1, 2, 3, 4, 5, 6, 7, 12, 13, 15] {
+        assert!(met.keys().any(|line| line.starts_with(&format!("refused {number} "))), "refusal {number} was never met");
+    }
+}

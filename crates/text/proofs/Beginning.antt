@@ -1,0 +1,153 @@
+-- The first lines one after the other, and the input of which the first bytes are read.
+-- Assumes nothing.
+use Prim.Native.Nat.{ℕ, _+_, _*_, _≤_, _<_}
+use mathlib.Core.Bool.{Bool, true, false, cond, _||_, true≢false}
+use mathlib.Core.Path.{_≡_, refl, sym, _∙_, ap}
+use mathlib.Core.Logic.{_⊎_, inl, inr}
+use mathlib.Core.List.{List, [], _∷_, _++_, append-assoc, append-nil}
+use native.Mathlib.Nat.{le-trans, mul-le-mul-left, mul-le-mul-right}
+use native.Mathlib.Omega.{arith}
+use lib.Dec.{eqb, ltb}
+use lib.ListN.{length, getD, take, drop, length-append, List·getD-append}
+use lib.Seq.{take-append-le, drop-append-le}
+use borrow.Author.Tests.{le-ltb, ltb-false, eqb-true}
+use Rattle.bitset.proofs.Tests.{decided}
+use Rattle.semiautomata.specs.Semiautomaton.{Semiautomaton}
+use Rattle.semiautomata.specs.Predictability.{Lookahead, Unpredictable}
+use Rattle.plan.specs.declared.Reading.the-variants.{Counts, Refused}
+use Rattle.plan.specs.Bytes.{headerOf, meaning, refusal, reading, WellFormed}
+use Rattle.plan.proofs.Refusals.{well-formed-range}
+use Rattle.table.specs.Table.{lookaheadOf, tableMeaning}
+use Rattle.prepare.specs.Preparing.{prepareRefusal, Tabled}
+use Rattle.prepare.proofs.Refusals.{square, prepare-clear, reading-refused}
+use Rattle.text.specs.declared.Printed.{Printed}
+use Rattle.text.specs.declared.Printed.the-variants.{Going, Ended, Short}
+use Rattle.text.specs.Lines.{countsLine, lookaheadLine, refusedLine, Appended}
+use Rattle.text.specs.Report.{totalOf, planOf, lettersOf, noPlan, countsOf, AfterLookahead, AfterCounts, never, predicts, Reports, no-plan, ill-formed, well-formed}
+use Rattle.text.specs.Calls.{tableSize, Laid, Lays, ReportText, Begins}
+use Rattle.text.proofs.Lines.{appended-on}
+
+-- a line before what follows
+module _ (says says′ : List ℕ → List ℕ → Type 0) {old : List ℕ} {at : ℕ} {a : List ℕ} {r : ℕ} {mid : List ℕ} (p : Appended old at a r mid)
+    (more : (letters text : List ℕ) → says letters text → says′ letters (a ++ text)) where
+  laid-on : {q : ℕ} {out : List ℕ} {later : List ℕ → List ℕ} → Laid says mid r q out later → Laid says′ old at q out later
+  laid-on {q} {out} {later} l =
+      record { text = a ++ l .text; put = appended-on p (l .put); follows = λ letters. rw (append-assoc a (l .text) (later letters)) (more letters (l .text ++ later letters) (l .follows letters)) }
+
+  pub lays-on : (printed : Printed) (out table left : List ℕ) → Lays says mid r printed out table left → Lays says′ old at printed out table left
+  lays-on (Going q) out table left l = laid-on l
+  lays-on (Ended q) out table left l = laid-on l
+  lays-on Short out table left l = l
+
+-- a refusal, and no more
+pub lays-last : (says : List ℕ → List ℕ → Type 0) {old : List ℕ} {at r : ℕ} {out : List ℕ} {a : List ℕ} → Appended old at a r out
+    → ((letters : List ℕ) → says letters a) → Laid says old at r out (λ letters. [])
+lays-last says {a = a} p is = record { text = a; put = p; follows = λ letters. rw (append-nil a) (is letters) }
+
+-- none of three numbers is too small
+pub three-long : (a b c d e f : ℕ) → (ltb a b || (ltb c d || ltb e f)) ≡ false → (b ≤ a) × (d ≤ c) × (f ≤ e)
+three-long a b c d e f h =
+    let (x, h) = none (ltb a b) (ltb c d || ltb e f) h in
+    let (y, z) = none (ltb c d) (ltb e f) h in
+    (ltb-false a b x, ltb-false c d y, ltb-false e f z)
+  where
+    none : (a b : Bool) → (a || b) ≡ false → (a ≡ false) × (b ≡ false)
+    none true b e = absurd (true≢false e)
+    none false b e = (refl, e)
+
+-- LINE 2
+
+-- the buffers are long enough for every plan
+pub prepare-taken : (plan : List ℕ) → WellFormed plan → (table letters : ℕ) → tableSize ≤ table → 4096 ≤ letters → prepareRefusal plan table letters ≡ 0
+prepare-taken plan w table letters a b =
+    let r = well-formed-range plan w in
+    let cells : headerOf plan .n * headerOf plan .m ≤ 2048 = le-trans (mul-le-mul-right (headerOf plan .m) (r .n-high)) (mul-le-mul-left 64 (r .m-high)) in
+    prepare-clear plan w {n = headerOf plan .n} refl {m = headerOf plan .m} refl (omega arith) {letters = letters} (omega (arith, square (r .n-high)))
+
+module _ {S : Semiautomaton} {old : List ℕ} {at : ℕ} where
+  pub counted : {k : ℕ} {old′ table : List ℕ} → Lookahead S k → Tabled S k old′ table → {r : ℕ} {mid : List ℕ} → Appended old at (lookaheadLine k) r mid
+      → (printed : Printed) (out left : List ℕ) → Lays (AfterLookahead (tableMeaning table) (lookaheadOf table)) mid r printed out table left
+      → Lays (AfterCounts S) old at printed out table left
+  counted {k} {old′} {table} L t p printed out left =
+      lays-on (AfterLookahead (tableMeaning table) (lookaheadOf table)) (AfterCounts S) p (λ letters text a. predicts k L {text = text} (rw (t .means, t .k-is) at a)) printed out table left
+
+  pub never-counted : Unpredictable S → {r : ℕ} {out : List ℕ} → Appended old at (refusedLine 15) r out → Laid (AfterCounts S) old at r out (λ letters. [])
+  never-counted u p = lays-last (AfterCounts S) p (λ letters. never u)
+
+-- THE INPUT
+
+-- the plan is whole
+pub record Whole (input : List ℕ) : Type 0 where
+  pub long : 16 ≤ length input
+  pub total : 16 ≤ totalOf input
+  pub there : totalOf input ≤ length input
+
+pub whole : (input : List ℕ) → noPlan input ≡ false → Whole input
+unfolding noPlan
+whole input e = let (a, b, c) = three-long _ _ _ _ _ _ e in record { long = a; total = b; there = c }
+
+module _ (input : List ℕ) (e : noPlan input ≡ false) (rest : List ℕ) where
+  same-total : totalOf (input ++ rest) ≡ totalOf input
+  same-total = let w = whole input e in rw (List·getD-append input rest 0 14 (omega (arith, w .long)), List·getD-append input rest 0 15 (omega (arith, w .long)))
+
+  still-plan : noPlan (input ++ rest) ≡ false
+  unfolding noPlan
+  still-plan =
+      let w = whole input e in
+      rw (same-total, length-append input rest, le-ltb (length input + length rest) 16 (omega (arith, w .long)), le-ltb (totalOf input) 16 (w .total), le-ltb (length input + length rest) (totalOf input) (omega (arith, w .there)))
+
+  same-plan : planOf (input ++ rest) ≡ planOf input
+  same-plan = rw same-total (take-append-le (totalOf input) input rest (whole input e .there))
+
+  same-letters : lettersOf (input ++ rest) ≡ lettersOf input ++ rest
+  same-letters = rw same-total (drop-append-le (totalOf input) input rest (whole input e .there))
+
+  report-well : WellFormed (planOf input) → (text : List ℕ) → AfterCounts (meaning (planOf input)) (lettersOf input ++ rest) text
+      → Reports (input ++ rest) (countsOf (headerOf (planOf input)) ++ text)
+  report-well w text a = rw (← same-plan) (well-formed still-plan (rw same-plan w) {text = text} (rw (same-plan, same-letters) a))
+
+  report-ill : ¬ WellFormed (planOf input) → Reports (input ++ rest) (refusedLine (refusal (planOf input)))
+  report-ill n = rw (← same-plan) (ill-formed still-plan (λ w. n (rw same-plan at w)))
+
+-- what is read of the plan
+module _ (plan : List ℕ) {n m s l : ℕ} (d : Counts n m s l ≡ reading plan) where
+  read-counts : WellFormed plan × (countsLine n m s l ≡ countsOf (headerOf plan))
+  read-counts = go (decided (eqb (refusal plan) 0))
+    where
+      go : (eqb (refusal plan) 0 ≡ true) ⊎ (eqb (refusal plan) 0 ≡ false) → WellFormed plan × (countsLine n m s l ≡ countsOf (headerOf plan))
+      go (inl q) = let f = rw q at d in (eqb-true (refusal plan) 0 q, (cc))
+      go (inr q) = let f = rw q at d in let z : _≡_ {A = ℕ} 0 1 = cc in absurd (omega arith)
+
+  pub read-well : WellFormed plan
+  read-well = read-counts .0
+
+-- what begin prints in each case
+module _ (input : List ℕ) {old : List ℕ} where
+  pub begun-no-plan : noPlan input ≡ true → {r : ℕ} {out : List ℕ} → Appended old 0 (refusedLine 1) r out → Laid (ReportText input) old 0 r out (λ rest. [])
+  begun-no-plan e p = lays-last (ReportText input) p (λ rest only. rw (only e, append-nil) (no-plan e))
+
+  module _ (e : noPlan input ≡ false) where
+    pub begun-ill : (number : ℕ) → Refused number ≡ reading (planOf input) → {r : ℕ} {out : List ℕ} → Appended old 0 (refusedLine number) r out
+        → Laid (ReportText input) old 0 r out (λ rest. [])
+    begun-ill number d p =
+        let (is, n) = reading-refused (planOf input) number d in
+        lays-last (ReportText input) p (λ rest _. rw is (report-ill input e rest (λ w. n (is ∙ w))))
+
+    module _ {n m s l : ℕ} (d : Counts n m s l ≡ reading (planOf input)) {at : ℕ} {mid : List ℕ} (p : Appended old 0 (countsLine n m s l) at mid) where
+      begun : {r : ℕ} {out : List ℕ} {later : List ℕ → List ℕ} → Laid (AfterCounts (meaning (planOf input))) mid at r out later
+          → Laid (ReportText input) old 0 r out (λ rest. later (lettersOf input ++ rest))
+      begun {later = later} a =
+          let (w, is) = read-counts (planOf input) d in
+          record {
+            text = countsLine n m s l ++ a .text;
+            put = appended-on p (a .put);
+            follows = λ rest _.
+                rw (append-assoc (countsLine n m s l) (a .text) (later (lettersOf input ++ rest)), is)
+                (report-well input e rest w (a .text ++ later (lettersOf input ++ rest)) (a .follows (lettersOf input ++ rest)));
+          }
+
+      pub begun-well : (printed : Printed) (table bytes table′ left out : List ℕ) → Lays (AfterCounts (meaning (planOf input))) mid at printed out table′ left
+          → Begins input table bytes printed table′ left old out
+      begun-well (Going q) table bytes table′ left out a = begun a
+      begun-well (Ended q) table bytes table′ left out a = begun a
+      begun-well Short table bytes table′ left out a = absurd a

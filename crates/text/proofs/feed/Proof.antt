@@ -1,0 +1,86 @@
+-- `feed` meets its contract. Between two turns the first i letters are fed and their lines printed.
+-- Assumes nothing.
+use Prim.Native.Nat.{_-_, _≤_}
+use mathlib.Core.Path.{refl, sym, _∙_}
+use native.Mathlib.Omega.{arith}
+use lib.ListN.{length}
+use Rattle.text.proofs.Lines.{appended-long}
+use Rattle.text.proofs.Feeding.{Upto, upto-none, upto-next, upto-refused, upto-all}
+use Rattle.text.proofs.feed.Statement.{statement}
+use Rattle.text.proofs.feed.Tie as tie
+
+abbrev Inv-loop : tie.InvT-loop
+Inv-loop table rec₀ letters out₀ at₀ i₀ i-end rec out at i = (i ≤ length letters) × Upto table rec₀ letters out₀ i rec out at
+
+abbrev μ-loop : tie.MeasureT-loop
+μ-loop table rec₀ letters out₀ at₀ i₀ i-end rec out at i = i-end - i
+
+returns : tie.Need-returns Inv-loop μ-loop
+returns c = (omega arith, refl, refl)
+
+loop-holds : tie.Need-loop-holds Inv-loop μ-loop
+loop-holds c = (omega arith, upto-none _ _ _ _)
+
+shared-slice-read-feed : tie.Need-shared-slice-read-feed Inv-loop μ-loop
+shared-slice-read-feed c = omega arith
+
+feed-requires : tie.Need-feed-requires Inv-loop μ-loop
+feed-requires c κs = tt
+
+reply-requires : tie.Need-reply-requires Inv-loop μ-loop
+reply-requires c κs = let u = c .before .before .before .before .before .before .before .loop .inv .1 in omega (arith, u .few, appended-long (u .put), c .before .before .before .before .before .before .before .before .if1 .left)
+
+is-refusal-requires : tie.Need-is-refusal-requires Inv-loop μ-loop
+is-refusal-requires c κs = tt
+
+same-length : tie.Need-same-length Inv-loop μ-loop
+same-length c = c .before .before .before .before .before .before .before .before .feed .kept .1 .0 ∙ c .before .before .before .before .before .before .before .before .before .before .before .before .loop .inv .1 .long
+
+same-length-2 : tie.Need-same-length-2 Inv-loop μ-loop
+same-length-2 c = c .before .before .before .before .reply .kept .0 ∙ appended-long (c .before .before .before .before .before .before .before .before .before .before .before .before .loop .inv .1 .put)
+
+returns-2 : tie.Need-returns-2 Inv-loop μ-loop
+returns-2 c = let f = c .before .before .before .before .before .before .before .before .feed .ensures in
+    upto-refused (c .before .before .before .before .before .before .before .before .before .before .before .before .loop .inv .1) (omega arith) (f .0) (f .1) (c .before .before .before .before .reply .ensures .0) (sym (c .before .is-refusal .ensures) ∙ c .if2 .taken)
+
+add-i : tie.Need-add-i Inv-loop μ-loop
+add-i c = omega arith
+
+loop-less : tie.Need-loop-less Inv-loop μ-loop
+loop-less c = omega arith
+
+loop-again : tie.Need-loop-again Inv-loop μ-loop
+loop-again c = let f = c .before .before .before .before .before .before .before .before .feed .ensures in
+    let p = c .before .before .before .before .reply .ensures in
+    (omega arith, upto-next (c .before .before .before .before .before .before .before .before .before .before .before .before .loop .inv .1) (omega arith) (f .0) (f .1) (p .0) (sym (c .before .is-refusal .ensures) ∙ c .if2 .left) (c .before .before .before .before .before .before .before .before .feed .kept .1 .0) (p .1))
+
+same-length-3 : tie.Need-same-length-3 Inv-loop μ-loop
+same-length-3 c = c .before .loop .inv .1 .long
+
+same-length-4 : tie.Need-same-length-4 Inv-loop μ-loop
+same-length-4 c = appended-long (c .before .loop .inv .1 .put)
+
+returns-3 : tie.Need-returns-3 Inv-loop μ-loop
+returns-3 c = upto-all (c .before .loop .inv .1) (omega arith)
+
+pub feed-spec : {M : Type 1} → statement M
+feed-spec =
+    tie.close
+    (tie.spec
+    Inv-loop
+    μ-loop
+    returns
+    loop-holds
+    shared-slice-read-feed
+    feed-requires
+    reply-requires
+    is-refusal-requires
+    same-length
+    same-length-2
+    returns-2
+    add-i
+    loop-less
+    loop-again
+    same-length-3
+    same-length-4
+    returns-3)
