@@ -1,5 +1,6 @@
 pub mod Places
 pub mod Pairing
+pub mod Turning
 pub mod Rivals
 pub mod Leading
 pub mod Striking

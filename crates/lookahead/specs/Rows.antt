@@ -35,6 +35,16 @@ pub record Grown (old new : List ℕ) : Type 0 where
   pub long : length new ≡ length old
   pub keeps : (s t : ℕ) → pair old s t ≡ true → pair new s t ≡ true
 
+-- in row r the states that letter a leads to r
+pub record Sources (n m a : ℕ) (sets rows : List ℕ) : Type 0 where
+  pub is : (r : ℕ) → getD rows r 0 ≡ setOf n (λ s. has (after m sets s a) r)
+
+-- the sets of letter a are the rows, and those of the other letters stay
+pub record Laid (n m a : ℕ) (rows old new : List ℕ) : Type 0 where
+  pub long : length new ≡ length old
+  pub is : (r : ℕ) → r < n → after m new r a ≡ getD rows r 0
+  pub keeps : (r b : ℕ) → b < m → ¬ (b ≡ a) → after m new r b ≡ after m old r b
+
 -- the table turned round: at each state and letter the states that the letter leads there
 pub record Turned (n m : ℕ) (sets back : List ℕ) : Type 0 where
   pub is : (r a : ℕ) → r < n → a < m → after m back r a ≡ setOf n (λ s. has (after m sets s a) r)

@@ -3,9 +3,8 @@ ghost use mathlib.Core.Bool.{true, false};
 ghost use mathlib.Core.Path.{_≡_};
 ghost use Prim.Native.Nat.{_*_, _≤_, _<_};
 ghost use lib.ListN.{length};
-ghost use Rattle.bitset.specs.Sets.{has, setOf};
 ghost use Rattle.semiautomata.specs.Successors.{successors, Fit};
-ghost use Rattle.lookahead.specs.Rows.{after, Put, Turned};
+ghost use Rattle.lookahead.specs.Rows.{Put, Sources, Laid, Turned};
 ghost use Rattle.lookahead.specs.Rivals.{Rivalry, Common, Apart};
 
 // Each state of `firsts` is paired with each of `seconds`.
@@ -21,16 +20,26 @@ pub fn pair_up(rows: &mut [u64; 64], firsts: u64, seconds: u64)
     }
 }
 
-// The states that the letter a leads to r.
-fn sources(sets: &[u64], n: usize, m: usize, r: usize, a: usize) -> u64
-    requires { ⌜ Fit n m (now sets) × (r < n) × (a < m) ⌝ }
-    ensures { λ z. ⌜ z ≡ setOf n (λ s. has (after m (now (sets .entry)) s a) r) ⌝ }
+// In row r the states that the letter a leads to r.
+fn column(sets: &[u64], n: usize, m: usize, a: usize) -> [u64; 64]
+    requires { ⌜ Fit n m (now sets) × (a < m) ⌝ }
+    ensures { λ z. ⌜ Sources n m a (now (sets .entry)) z ⌝ }
 {
-    let mut out: u64 = 0;
+    let mut rows = [0u64; 64];
     for s in 0..n {
-        out += ((sets[s * m + a] >> r) & 1) << s;
+        pair_up(&mut rows, sets[s * m + a], 1 << s);
     }
-    out
+    rows
+}
+
+// The rows become the sets of the letter a.
+fn lay(back: &mut [u64; 2048], rows: &[u64; 64], n: usize, m: usize, a: usize)
+    requires { ⌜ (length (now back) ≡ 2048) × (n ≤ 64) × (m ≤ 32) × (a < m) ⌝ }
+    ensures { λ r. ⌜ Laid n m a (now (rows .entry)) (now (back .entry)) (now (back .exit)) ⌝ }
+{
+    for r in 0..n {
+        back[r * m + a] = rows[r];
+    }
 }
 
 // The table turned round: at each state and letter the states that the letter leads there.
@@ -39,8 +48,9 @@ pub fn turn(sets: &[u64], n: usize, m: usize) -> [u64; 2048]
     ensures { λ z. ⌜ Turned n m (now (sets .entry)) z ⌝ }
 {
     let mut back = [0u64; 2048];
-    for i in 0..n * m {
-        back[i] = sources(sets, n, m, i / m, i % m);
+    for a in 0..m {
+        let rows = column(sets, n, m, a);
+        lay(&mut back, &rows, n, m, a);
     }
     back
 }

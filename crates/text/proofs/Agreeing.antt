@@ -1,7 +1,7 @@
 -- A walk over a table and record bytes prints what the plain walk prints.
 -- Assumes nothing.
 use Prim.Native.Nat.{ℕ, _+_, _^_, _≤_, _<_}
-use mathlib.Core.Bool.{Bool, true, false, cond, _||_, true≢false}
+use mathlib.Core.Bool.{true, false, _||_, true≢false}
 use mathlib.Core.Path.{_≡_, refl, sym, _∙_, ap}
 use mathlib.Core.Logic.{_⊎_, inl, inr}
 use mathlib.Core.List.{List, [], _∷_, _++_, append-nil, map}
@@ -13,7 +13,7 @@ use Rattle.bitset.specs.Sets.{any, setOf}
 use Rattle.bitset.proofs.Below.{any-out, any-not}
 use Rattle.bitset.proofs.Tests.{decided, not-so}
 use Rattle.semiautomata.specs.Semiautomaton.{Semiautomaton, Within}
-use Rattle.semiautomata.specs.Predictability.{Predictable, Lookahead}
+use Rattle.semiautomata.specs.Predictability.{Lookahead}
 use Rattle.semiautomata.specs.Calls.{Reply, refused, resolved, nothing, Result, final}
 use Rattle.semiautomata.specs.PlainWalk.{plainReply, plainFeed, plainTaken}
 use Rattle.semiautomata.specs.Streaming.{Rec, sound, opened, feed, finish, unresolved, recordAfter}
@@ -23,13 +23,13 @@ use Rattle.semiautomata.proofs.Demand3.{finish-whole}
 use Rattle.table.specs.Table.{lookaheadOf, tableMeaning, unfit}
 use Rattle.table.proofs.Fitness.{fitting}
 use Rattle.records.specs.Bytes.{heldFrom, decode}
-use Rattle.predictor.specs.Calls.{written, openedOn, fedOn, endRefusal, ended}
+use Rattle.predictor.specs.Calls.{written, openedOn, fedOn, ended}
 use Rattle.predictor.specs.Parts.{isRefusal}
 use Rattle.predictor.proofs.Tables.{lookahead-le}
 use Rattle.predictor.proofs.Ending.{end-0}
 use Rattle.demand.proofs.Records.{Holds, Small, encode-holds, written-holds, feed-keeps, opened-is, fed-is, follows-small}
-use Rattle.text.specs.Lines.{refusedLine, Appended}
-use Rattle.text.specs.Report.{replyText, openText, walkText, plainOpen, plainText, AfterLookahead, no-start, walked}
+use Rattle.text.specs.Lines.{Appended}
+use Rattle.text.specs.Report.{replyText, walkText, plainOpen, plainText, AfterLookahead, no-start, walked}
 use Rattle.text.specs.Calls.{mostSets, recordSize, openOn, walkOn, Laid}
 
 -- two walks whose calls agree print the same

@@ -1,14 +1,14 @@
 -- The first lines one after the other, and the input of which the first bytes are read.
 -- Assumes nothing.
-use Prim.Native.Nat.{ℕ, _+_, _*_, _≤_, _<_}
-use mathlib.Core.Bool.{Bool, true, false, cond, _||_, true≢false}
-use mathlib.Core.Path.{_≡_, refl, sym, _∙_, ap}
+use Prim.Native.Nat.{ℕ, _+_, _*_, _≤_}
+use mathlib.Core.Bool.{Bool, true, false, _||_, true≢false}
+use mathlib.Core.Path.{_≡_, refl, _∙_}
 use mathlib.Core.Logic.{_⊎_, inl, inr}
-use mathlib.Core.List.{List, [], _∷_, _++_, append-assoc, append-nil}
+use mathlib.Core.List.{List, [], _++_, append-assoc, append-nil}
 use native.Mathlib.Nat.{le-trans, mul-le-mul-left, mul-le-mul-right}
 use native.Mathlib.Omega.{arith}
 use lib.Dec.{eqb, ltb}
-use lib.ListN.{length, getD, take, drop, length-append, List·getD-append}
+use lib.ListN.{length, length-append, List·getD-append}
 use lib.Seq.{take-append-le, drop-append-le}
 use borrow.Author.Tests.{le-ltb, ltb-false, eqb-true}
 use Rattle.bitset.proofs.Tests.{decided}
@@ -86,9 +86,12 @@ pub whole : (input : List ℕ) → noPlan input ≡ false → Whole input
 unfolding noPlan
 whole input e = let (a, b, c) = three-long _ _ _ _ _ _ e in record { long = a; total = b; there = c }
 
+pub total-on : (input rest : List ℕ) → 16 ≤ length input → totalOf (input ++ rest) ≡ totalOf input
+total-on input rest h = rw (List·getD-append input rest 0 14 (omega arith), List·getD-append input rest 0 15 (omega arith))
+
 module _ (input : List ℕ) (e : noPlan input ≡ false) (rest : List ℕ) where
   same-total : totalOf (input ++ rest) ≡ totalOf input
-  same-total = let w = whole input e in rw (List·getD-append input rest 0 14 (omega (arith, w .long)), List·getD-append input rest 0 15 (omega (arith, w .long)))
+  same-total = total-on input rest (whole input e .long)
 
   still-plan : noPlan (input ++ rest) ≡ false
   unfolding noPlan
@@ -124,7 +127,7 @@ module _ (plan : List ℕ) {n m s l : ℕ} (d : Counts n m s l ≡ reading plan)
 -- what begin prints in each case
 module _ (input : List ℕ) {old : List ℕ} where
   pub begun-no-plan : noPlan input ≡ true → {r : ℕ} {out : List ℕ} → Appended old 0 (refusedLine 1) r out → Laid (ReportText input) old 0 r out (λ rest. [])
-  begun-no-plan e p = lays-last (ReportText input) p (λ rest only. rw (only e, append-nil) (no-plan e))
+  begun-no-plan e p = lays-last (ReportText input) p (λ rest told. no-plan (told e))
 
   module _ (e : noPlan input ≡ false) where
     pub begun-ill : (number : ℕ) → Refused number ≡ reading (planOf input) → {r : ℕ} {out : List ℕ} → Appended old 0 (refusedLine number) r out

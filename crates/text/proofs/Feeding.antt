@@ -1,14 +1,14 @@
 -- Letters fed one after the other: what is printed of the first of them, and what follows.
 -- Assumes nothing.
-use Prim.Native.Nat.{ℕ, suc, _+_, _*_, _≤_, _<_}
+use Prim.Native.Nat.{ℕ, _+_, _*_, _≤_, _<_}
 use mathlib.Core.Bool.{Bool, true, false, cond}
-use mathlib.Core.Path.{_≡_, refl, sym, _∙_, ap}
-use mathlib.Core.List.{List, [], _∷_, _++_, append-assoc}
+use mathlib.Core.Path.{_≡_, refl, _∙_}
+use mathlib.Core.List.{List, [], _++_, append-assoc}
 use native.Mathlib.Numerals.{add-one}
 use native.Mathlib.Omega.{arith}
-use lib.ListN.{length, getD, take, drop, drop-of-length-le}
+use lib.ListN.{length, getD, drop, drop-of-length-le}
 use lib.Seq.{drop-cons}
-use Rattle.semiautomata.specs.Calls.{Reply, Result}
+use Rattle.semiautomata.specs.Calls.{Reply}
 use Rattle.predictor.specs.Calls.{fedOn}
 use Rattle.predictor.specs.Parts.{isRefusal}
 use Rattle.text.specs.Lines.{Appended}

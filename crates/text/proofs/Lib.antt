@@ -4,3 +4,4 @@ pub mod Feeding
 pub mod Finishing
 pub mod Agreeing
 pub mod Beginning
+pub mod Theorems

@@ -2,15 +2,14 @@
 -- Assumes nothing.
 use Prim.Native.Nat.{ℕ, zero, suc, _+_, _*_, _^_, _≤_, _<_}
 use mathlib.Core.Bool.{Bool, true, false, cond}
-use mathlib.Core.Path.{_≡_}
-use mathlib.Core.List.{List, [], _∷_, _++_}
+use mathlib.Core.List.{List, []}
 use native.Mathlib.Omega.{arith}
 use lib.ListN.{length, length-append}
 use Rattle.bitset.specs.Sets.{has}
 use Rattle.plan.specs.declared.group.Group.{Group}
 use Rattle.plan.specs.declared.group.Group.the-variants.{Author, Caller, Logger, Nobody}
 use Rattle.plan.specs.Groups.{groupOf}
-use Rattle.text.specs.Lines.{decimal, stakes, codes, starts, lines, lookAhead, atWord, stake, openWord, stakesAre, space, refusedWord, groupWord, lineFeed, field, countsLine, lookaheadLine, refusedLine, resolutionLine, listed, openLine}
+use Rattle.text.specs.Lines.{stakes, codes, starts, lines, lookAhead, atWord, stake, openWord, space, refusedWord, groupWord, field, countsLine, lookaheadLine, refusedLine, resolutionLine, listed, openLine}
 use Rattle.text.proofs.Lines.{decimal-length}
 
 field-width : (word : List ℕ) (c x : ℕ) → x < 10 ^ suc c → length (field word x) ≤ length word + suc c

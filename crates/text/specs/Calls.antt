@@ -69,11 +69,14 @@ Lays says old at (Going r) out table left = Laid says old at r out (walkOn table
 Lays says old at (Ended r) out table left = Laid says old at r out (λ letters. [])
 Lays says old at Short out table left = ⊥
 
--- The report of an input of which the first bytes are read: so many that its plan is whole, or all.
-abbrev pub ReportText : List ℕ → List ℕ → List ℕ → Type 0
-ReportText input rest text = (noPlan input ≡ true → rest ≡ []) → Reports (input ++ rest) text
+-- The first bytes of an input tell whether it has a plan: refusal 1 of them is one of the whole.
+abbrev pub Told : List ℕ → List ℕ → Type 0
+Told input rest = noPlan input ≡ true → noPlan (input ++ rest) ≡ true
 
--- The letters among those bytes are still to be fed. A short buffer is answered so, and nothing is done.
+abbrev pub ReportText : List ℕ → List ℕ → List ℕ → Type 0
+ReportText input rest text = Told input rest → Reports (input ++ rest) text
+
+-- The report's first lines; the letters among those bytes are still to be fed. A short buffer is answered so, and nothing is done.
 abbrev pub Begins : List ℕ → List ℕ → List ℕ → Printed → List ℕ → List ℕ → List ℕ → List ℕ → Type 0
 Begins input table bytes (Going r) table′ left old out = Laid (ReportText input) old 0 r out (λ rest. walkOn table′ left (lettersOf input ++ rest))
 Begins input table bytes (Ended r) table′ left old out = Laid (ReportText input) old 0 r out (λ rest. [])

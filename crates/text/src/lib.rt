@@ -27,6 +27,8 @@ pub enum Printed {
     Short,
 }
 
+// ANSWERS
+
 // The line of an answer, if it has one.
 fn reply(out: &mut [u8], at: usize, answer: Answer) -> usize
     requires { ⌜ at + letterWidth ≤ length (now out) ⌝ }
@@ -52,6 +54,90 @@ fn is_refusal(answer: Answer) -> bool
     }
 }
 
+// THE FIRST LINES
+
+// The byte at a place; 0 past the end.
+fn byte_at(bytes: &[u8], i: usize) -> usize
+    ensures { λ r. ⌜ (r ≡ getD (now (bytes .entry)) i 0) × (r < 256) ⌝ }
+{
+    if i < bytes.len() {
+        bytes[i] as usize
+    } else {
+        0
+    }
+}
+
+// How many bytes of an input are its plan, as these say themselves.
+pub fn total(input: &[u8]) -> usize
+    ensures { λ r. ⌜ (r ≡ totalOf (now (input .entry))) × (r < 65536) ⌝ }
+{
+    byte_at(input, 14) + 256 * byte_at(input, 15)
+}
+
+// Refusal 1.
+fn no_plan(input: &[u8]) -> bool
+    ensures { λ r. ⌜ r ≡ noPlan (now (input .entry)) ⌝ }
+{
+    let end = total(input);
+    (input.len() < 16) | ((end < 16) | (input.len() < end))
+}
+
+// What is printed of opening a record on a table, and whether the walk goes on.
+fn opened(table: &[u64], rec: &mut [u8], out: &mut [u8], at: usize) -> Printed
+    requires { ⌜ (unfit (now table) ≡ false) × Lookahead (tableMeaning (now table)) (lookaheadOf (now table)) × (recordSize ≤ length (now rec)) × (at + letterWidth ≤ length (now out)) ⌝ }
+    ensures { λ r. ⌜ Lays (AfterLookahead (tableMeaning (now (table .entry))) (lookaheadOf (now (table .entry)))) (now (out .entry)) at r (now (out .exit)) (now (table .entry)) (now (rec .exit)) ⌝ }
+{
+    let answer = predictor::open(table, rec);
+    let end = reply(out, at, answer);
+    if is_refusal(answer) {
+        Printed::Ended(end)
+    } else {
+        Printed::Going(end)
+    }
+}
+
+// Of a well-formed plan, the lines from the second on: line 2 takes 32 bytes at the most, opening's 24. With buffers of these sizes
+// preparing refuses no such plan.
+fn prepared(plan: &[u8], table: &mut [u64], rec: &mut [u8], out: &mut [u8], at: usize) -> Printed
+    requires { ⌜ WellFormed (now plan) × (tableSize ≤ length (now table)) × (recordSize ≤ length (now rec)) × (at + 56 ≤ length (now out)) ⌝ }
+    ensures { λ r. ⌜ Lays (AfterCounts (meaning (now (plan .entry)))) (now (out .entry)) at r (now (out .exit)) (now (table .exit)) (now (rec .exit)) ⌝ }
+{
+    let mut letters = [0u8; 4096];
+    let prepared = prepare::prepare(plan, table, &mut letters);
+    match prepared {
+        Prepared::Ready(k) => {
+            let end = line::lookahead(out, at, k);
+            opened(table, rec, out, end)
+        }
+        Prepared::Refused(number) => Printed::Ended(line::refused(out, at, number)),
+        Prepared::Unpredictable(_) => Printed::Ended(line::refused(out, at, 15)),
+    }
+}
+
+// The first lines of an input: of its plan, and of opening a walk on it.
+pub fn begin(input: &[u8], table: &mut [u64], rec: &mut [u8], out: &mut [u8]) -> Printed
+    ensures { λ r. ⌜ Begins (now (input .entry)) (now (table .entry)) (now (rec .entry)) r (now (table .exit)) (now (rec .exit)) (now (out .entry)) (now (out .exit)) ⌝ }
+{
+    if (table.len() < 2052) | ((rec.len() < 2024) | (out.len() < 106)) {
+        return Printed::Short;
+    }
+    if no_plan(input) {
+        return Printed::Ended(line::refused(out, 0, 1));
+    }
+    let end = total(input);
+    let plan = &input[..end];
+    let reading = plan::read(plan);
+    match reading {
+        Reading::Refused(number) => Printed::Ended(line::refused(out, 0, number)),
+        Reading::Counts { n, m, p, e } => {
+            let at = line::counts(out, 0, n, m, p, e);
+            prepared(plan, table, rec, out, at)
+        }
+    }
+}
+
+// LETTERS
+
 // Letters are fed to a record, and their lines printed, up to a refusal.
 pub fn feed(table: &[u64], rec: &mut [u8], letters: &[u8], out: &mut [u8]) -> Printed
     ensures { λ r. ⌜ Feeds (now (table .entry)) (now (rec .entry)) (now (letters .entry)) r (now (rec .exit)) (now (out .entry)) (now (out .exit)) ⌝ }
@@ -70,16 +156,7 @@ pub fn feed(table: &[u64], rec: &mut [u8], letters: &[u8], out: &mut [u8]) -> Pr
     Printed::Going(at)
 }
 
-// The byte at a place; 0 past the end.
-fn byte_at(bytes: &[u8], i: usize) -> usize
-    ensures { λ r. ⌜ (r ≡ getD (now (bytes .entry)) i 0) × (r < 256) ⌝ }
-{
-    if i < bytes.len() {
-        bytes[i] as usize
-    } else {
-        0
-    }
-}
+// THE OPEN LINES
 
 // How many letters a record has taken.
 fn fed_of(rec: &[u8]) -> usize
@@ -124,74 +201,6 @@ pub fn finish(table: &[u64], rec: &[u8], out: &mut [u8]) -> Printed
         Ended::Open(count) => {
             let first = less(fed_of(rec) + 1, count);
             Printed::Ended(open_lines(out, first, &sets[..count]))
-        }
-    }
-}
-
-// What is printed of opening a record on a table, and whether the walk goes on.
-fn opened(table: &[u64], rec: &mut [u8], out: &mut [u8], at: usize) -> Printed
-    requires { ⌜ (unfit (now table) ≡ false) × Lookahead (tableMeaning (now table)) (lookaheadOf (now table)) × (recordSize ≤ length (now rec)) × (at + letterWidth ≤ length (now out)) ⌝ }
-    ensures { λ r. ⌜ Lays (AfterLookahead (tableMeaning (now (table .entry))) (lookaheadOf (now (table .entry)))) (now (out .entry)) at r (now (out .exit)) (now (table .entry)) (now (rec .exit)) ⌝ }
-{
-    let answer = predictor::open(table, rec);
-    let end = reply(out, at, answer);
-    if is_refusal(answer) {
-        Printed::Ended(end)
-    } else {
-        Printed::Going(end)
-    }
-}
-
-// Of a well-formed plan, the lines from the second on.
-fn prepared(plan: &[u8], table: &mut [u64], rec: &mut [u8], out: &mut [u8], at: usize) -> Printed
-    requires { ⌜ WellFormed (now plan) × (tableSize ≤ length (now table)) × (recordSize ≤ length (now rec)) × (at + 56 ≤ length (now out)) ⌝ }
-    ensures { λ r. ⌜ Lays (AfterCounts (meaning (now (plan .entry)))) (now (out .entry)) at r (now (out .exit)) (now (table .exit)) (now (rec .exit)) ⌝ }
-{
-    let mut letters = [0u8; 4096];
-    let prepared = prepare::prepare(plan, table, &mut letters);
-    match prepared {
-        Prepared::Ready(k) => {
-            let end = line::lookahead(out, at, k);
-            opened(table, rec, out, end)
-        }
-        Prepared::Refused(number) => Printed::Ended(line::refused(out, at, number)),
-        Prepared::Unpredictable(_) => Printed::Ended(line::refused(out, at, 15)),
-    }
-}
-
-// How many bytes of an input are its plan, as these say themselves.
-pub fn total(input: &[u8]) -> usize
-    ensures { λ r. ⌜ (r ≡ totalOf (now (input .entry))) × (r < 65536) ⌝ }
-{
-    byte_at(input, 14) + 256 * byte_at(input, 15)
-}
-
-// Refusal 1.
-fn no_plan(input: &[u8]) -> bool
-    ensures { λ r. ⌜ r ≡ noPlan (now (input .entry)) ⌝ }
-{
-    let end = total(input);
-    (input.len() < 16) | ((end < 16) | (input.len() < end))
-}
-
-// The first lines of an input: of its plan, and of opening a walk on it.
-pub fn begin(input: &[u8], table: &mut [u64], rec: &mut [u8], out: &mut [u8]) -> Printed
-    ensures { λ r. ⌜ Begins (now (input .entry)) (now (table .entry)) (now (rec .entry)) r (now (table .exit)) (now (rec .exit)) (now (out .entry)) (now (out .exit)) ⌝ }
-{
-    if (table.len() < 2052) | ((rec.len() < 2024) | (out.len() < 106)) {
-        return Printed::Short;
-    }
-    if no_plan(input) {
-        return Printed::Ended(line::refused(out, 0, 1));
-    }
-    let end = total(input);
-    let plan = &input[..end];
-    let reading = plan::read(plan);
-    match reading {
-        Reading::Refused(number) => Printed::Ended(line::refused(out, 0, number)),
-        Reading::Counts { n, m, p, e } => {
-            let at = line::counts(out, 0, n, m, p, e);
-            prepared(plan, table, rec, out, at)
         }
     }
 }

@@ -1,9 +1,7 @@
 // The report's lines, each written at a place of a buffer that keeps the rest; the answer is the place behind the line.
-ghost use mathlib.Core.Path.{_≡_};
 ghost use mathlib.Core.Bool.{cond};
 ghost use mathlib.Core.List.{[]};
 ghost use Rattle.bitset.specs.Sets.{has};
-ghost use Rattle.plan.specs.Groups.{groupOf};
 ghost use Rattle.text.specs.Lines.{decimal, field as Lines·field, space, groupWord, countsLine, lookaheadLine, refusedLine, resolutionLine, listed, openLine, Room, Appended};
 use plan::group::Group;
 

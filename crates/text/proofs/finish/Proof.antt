@@ -3,7 +3,7 @@
 use Prim.Native.Nat.{ℕ, _+_, _-_, _≤_}
 use mathlib.Core.Path.{_≡_, sym, _∙_, ap}
 use native.Mathlib.Omega.{arith}
-use lib.ListN.{length, take, drop, replicate}
+use lib.ListN.{length, replicate}
 use lib.Seq.{length-take-le}
 use Rattle.predictor.specs.Calls.{ended}
 use Rattle.text.proofs.Widths.{refused-width}

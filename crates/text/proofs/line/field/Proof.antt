@@ -1,6 +1,5 @@
 -- `field` meets its contract.
 -- Assumes nothing.
-use mathlib.Core.List.{_++_}
 use Rattle.text.specs.Lines.{decimal, field}
 use Rattle.text.proofs.Lines.{room-left, room-on, appended-on}
 use borrow.Author.Needs.{needs}

@@ -2,7 +2,6 @@
 -- Assumes nothing.
 use mathlib.Core.Path.{sym, _∙_}
 use native.Mathlib.Omega.{arith}
-use lib.ListN.{length}
 use Rattle.text.proofs.Lines.{appended-none}
 use borrow.Author.Needs.{needs}
 use Rattle.text.proofs.line.member.Statement.{statement}

@@ -1,11 +1,11 @@
 -- `members` meets its contract. Between two turns the states below s are listed.
 -- Assumes nothing.
-use Prim.Native.Nat.{suc, _-_, _≤_}
+use Prim.Native.Nat.{_-_, _≤_}
 use mathlib.Core.Path.{_≡_}
 use native.Mathlib.Numerals.{add-one}
 use native.Mathlib.Omega.{arith}
 use Rattle.bitset.specs.Sets.{has}
-use Rattle.text.specs.Lines.{listed, Room, Appended}
+use Rattle.text.specs.Lines.{listed, Appended}
 use Rattle.text.proofs.Lines.{appended-none, appended-on, appended-long, room-on, room-listed}
 use Rattle.text.proofs.line.members.Statement.{statement}
 use Rattle.text.proofs.line.members.Tie as tie

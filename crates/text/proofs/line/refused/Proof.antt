@@ -1,6 +1,5 @@
 -- `refused` meets its contract.
 -- Assumes nothing.
-use mathlib.Core.Path.{ap}
 use mathlib.Core.List.{_++_}
 use Rattle.plan.specs.Groups.{groupOf}
 use Rattle.text.specs.Lines.{refusedWord, groupWord, lineFeed, field, refusedLine, Room, Appended}
