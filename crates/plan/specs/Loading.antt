@@ -12,7 +12,7 @@ use Rattle.plan.specs.declared.Header.{Header}
 use Rattle.plan.specs.declared.Edge.{Edge}
 use Rattle.plan.specs.Bytes.{headerOf, lineWidth, meaning}
 
--- A header of which 1 to 4 are passed: its counts are in range and its parts lie within the bytes.
+-- What reading the parts needs of refusals 1 to 4: few states and letters, and parts that lie within the bytes.
 pub record Sound (plan : List ℕ) (h : Header) : Type 0 where
   pub is : h ≡ headerOf plan
   pub states : h .n ≤ 64

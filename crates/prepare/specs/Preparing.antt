@@ -34,7 +34,7 @@ countRefusal plan letters = lowest (planChecks plan ++ short (shortLetters plan 
 unfoldable pub prepareRefusal : List ℕ → ℕ → ℕ → ℕ
 prepareRefusal plan table letters = lowest (planChecks plan ++ short (shortTable plan table || shortLetters plan letters))
 
--- The table holds the form for what S means and k, and keeps the rest of the buffer.
+-- The table holds the form of S with k, and keeps the rest of the buffer.
 pub record Tabled (S : Semiautomaton) (k : ℕ) (old table : List ℕ) : Type 0 where
   pub fit : unfit table ≡ false
   pub means : tableMeaning table ≡ S

@@ -52,10 +52,10 @@ pub record Laid (says : List ℕ → List ℕ → Type 0) (old : List ℕ) (at r
 abbrev pub FedText : List ℕ → List ℕ → List ℕ → List ℕ → List ℕ → Type 0
 FedText table bytes letters rest text = walkOn table bytes (letters ++ rest) ≡ text
 
-abbrev pub Feeds : List ℕ → List ℕ → List ℕ → Printed → List ℕ → List ℕ → List ℕ → Type 0
-Feeds table bytes letters (Going r) left old out = Laid (FedText table bytes letters) old 0 r out (walkOn table left)
-Feeds table bytes letters (Ended r) left old out = Laid (FedText table bytes letters) old 0 r out (λ rest. openOn table left)
-Feeds table bytes letters Short left old out = (length old < letterWidth * length letters) × (left ≡ bytes) × (out ≡ old)
+abbrev pub FeedsPart : List ℕ → List ℕ → List ℕ → Printed → List ℕ → List ℕ → List ℕ → Type 0
+FeedsPart table bytes letters (Going r) left old out = Laid (FedText table bytes letters) old 0 r out (walkOn table left)
+FeedsPart table bytes letters (Ended r) left old out = Laid (FedText table bytes letters) old 0 r out (λ rest. openOn table left)
+FeedsPart table bytes letters Short left old out = (length old < letterWidth * length letters) × (left ≡ bytes) × (out ≡ old)
 
 -- Ending: all open lines; or fewer bytes are lent than they may take, and nothing is done.
 abbrev pub Finishes : List ℕ → List ℕ → Printed → List ℕ → List ℕ → Type 0

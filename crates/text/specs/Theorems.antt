@@ -6,15 +6,15 @@ use mathlib.Core.List.{List, [], _∷_, _++_}
 use lib.ListN.{length, take}
 use Rattle.text.specs.declared.Printed.the-variants.{Going, Ended}
 use Rattle.text.specs.Report.{totalOf, lettersOf, Reports}
-use Rattle.text.specs.Calls.{Feeds, Finishes, Told, Begins}
+use Rattle.text.specs.Calls.{FeedsPart, Finishes, Told, Begins}
 
 -- Letters fed to a record in parts, and the text: of each part as many bytes as the call answered. The input ends, or a refusal ends the
 -- walk and the rest of the letters is not looked at; then come the open lines.
 pub data Walked (table : List ℕ) : List ℕ → List ℕ → List ℕ → Type 0 where
   ends : (bytes old out : List ℕ) (r : ℕ) → Finishes table bytes (Ended r) old out → Walked table bytes [] (take r out)
-  goes : (bytes left letters rest text old out : List ℕ) (r : ℕ) → Feeds table bytes letters (Going r) left old out → Walked table left rest text
+  goes : (bytes left letters rest text old out : List ℕ) (r : ℕ) → FeedsPart table bytes letters (Going r) left old out → Walked table left rest text
       → Walked table bytes (letters ++ rest) (take r out ++ text)
-  stops : (bytes left letters rest old out old′ out′ : List ℕ) (r q : ℕ) → Feeds table bytes letters (Ended r) left old out
+  stops : (bytes left letters rest old out old′ out′ : List ℕ) (r q : ℕ) → FeedsPart table bytes letters (Ended r) left old out
       → Finishes table left (Ended q) old′ out′ → Walked table bytes (letters ++ rest) (take r out ++ take q out′)
 
 -- Plan A and three letters, the sample of document 01, and its six lines.

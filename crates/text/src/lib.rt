@@ -12,7 +12,7 @@ ghost use Rattle.predictor.specs.Replies.{said};
 ghost use Rattle.predictor.specs.Parts.{isRefusal};
 ghost use Rattle.text.specs.Lines.{Appended};
 ghost use Rattle.text.specs.Report.{totalOf, noPlan, replyText, openLines, AfterLookahead, AfterCounts};
-ghost use Rattle.text.specs.Calls.{mostSets, tableSize, recordSize, letterWidth, openWidth, Feeds, Finishes, Lays, Begins};
+ghost use Rattle.text.specs.Calls.{mostSets, tableSize, recordSize, letterWidth, openWidth, FeedsPart, Finishes, Lays, Begins};
 use plan::Reading;
 use predictor::Answer;
 use predictor::Ended;
@@ -140,7 +140,7 @@ pub fn begin(input: &[u8], table: &mut [u64], rec: &mut [u8], out: &mut [u8]) ->
 
 // Letters are fed to a record, and their lines printed, up to a refusal.
 pub fn feed(table: &[u64], rec: &mut [u8], letters: &[u8], out: &mut [u8]) -> Printed
-    ensures { λ r. ⌜ Feeds (now (table .entry)) (now (rec .entry)) (now (letters .entry)) r (now (rec .exit)) (now (out .entry)) (now (out .exit)) ⌝ }
+    ensures { λ r. ⌜ FeedsPart (now (table .entry)) (now (rec .entry)) (now (letters .entry)) r (now (rec .exit)) (now (out .entry)) (now (out .exit)) ⌝ }
 {
     if out.len() / 24 < letters.len() {
         return Printed::Short;
