@@ -40,7 +40,7 @@ use Rattle.simulate.specs.Walking.{Stands, walkRefusal, Walks}
 use Rattle.simulate.specs.Verdicts.{verdictRefusal, Judges, Tells, Computes}
 use Rattle.simulate.proofs.Theorems.{one-set, one-verdict}
 use Rattle.demand.specs.Demand.{Made}
-use Rattle.simulate.proofs.Longest.{longest-some}
+use Rattle.walks.proofs.Longest.{longest-some}
 use Rattle.simulate.proofs.Positions.{possible-stands}
 use Rattle.simulate.proofs.Naming.{tells}
 use Rattle.demand.proofs.Theorems.{theorems}

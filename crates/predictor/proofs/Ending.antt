@@ -1,21 +1,28 @@
 -- Ending: its refusals, and the sets that it writes.
 -- Assumes nothing.
-use Prim.Native.Nat.{ℕ, zero, suc, _+_, _-_, _≤_, _<_, min}
-use mathlib.Core.Bool.{Bool, true, false, not, _&&_, _||_}
-use mathlib.Core.Path.{_≡_, refl, _∙_, ap}
+use Prim.Native.Nat.{ℕ, zero, suc, _+_, _-_, _^_, _≤_, _<_, min}
+use mathlib.Core.Bool.{Bool, true, false, not, _&&_, _||_, true≢false}
+use mathlib.Core.Path.{_≡_, refl, sym, _∙_, ap}
 use mathlib.Core.List.{List, map}
 use native.Mathlib.Omega.{arith}
 use lib.ListN.{length, getD, take, drop, length-take, length-drop}
 use lib.Dec.{ltb}
 use lib.Seq.{drop-cons}
 use borrow.Author.Tests.{le-leb, lt-leb}
-use Rattle.bitset.specs.Sets.{has, setOf}
+use Rattle.bitset.specs.Sets.{any, has, setOf}
+use Rattle.bitset.proofs.Below.{with-any}
+use Rattle.bitset.proofs.Bits.{has-empty}
 use Rattle.semiautomata.specs.Semiautomaton.{Semiautomaton}
-use Rattle.semiautomata.specs.Walks.{possible}
+use Rattle.semiautomata.specs.Walks.{reach, possible, longest}
+use Rattle.semiautomata.specs.Successors.{successors, Fit}
 use Rattle.semiautomata.specs.Demand3.{followed, range, collect}
 use Rattle.semiautomata.specs.Streaming.{base, sound, unresolved}
+use Rattle.semiautomata.proofs.Computed.{reach-out}
+use Rattle.semiautomata.proofs.Successors.{fit-within}
 use Rattle.table.specs.Table.{lookaheadOf, tableMeaning, unfit}
 use Rattle.walks.specs.Walking.{Written}
+use Rattle.walks.proofs.Steps.{reach-bare}
+use Rattle.walks.proofs.Longest.{longest-whole}
 use Rattle.table.proofs.Fitness.{Fitting, fitting-fit}
 use Rattle.records.specs.Bytes.{heldFrom, heldCount, decode, tidy}
 use Rattle.predictor.specs.Calls.{endRefusal}
@@ -64,6 +71,18 @@ module _ (S : Semiautomaton) (k : ℕ) (bytes : List ℕ) {here : ℕ} (s : Stan
 
   pub open-count : length (openSets S k bytes) ≡ count
   open-count = rw (open-sets, length-take, length-drop) (omega arith)
+
+-- the held letters of a sound record can be walked from its base to their end
+module _ {n m k here from : ℕ} {sets bytes part : List ℕ} (starts : ℕ) (f : Fit n m sets) (below : from < 2 ^ n) (s : Standing (successors n m starts sets) k bytes here)
+    (is : has from ≡ base (successors n m starts sets) k (decode bytes)) (held : part ≡ decode bytes .held) where
+  reached : any n (reach (successors n m from sets) (has from) part) ≡ true
+  reached = rw (reach-bare n m from sets (has from) part, ← reach-bare n m starts sets (has from) part, is, held) (s .some)
+
+  pub base-some : ¬ (from ≡ 0)
+  base-some z = with-any n _ (λ t _ e. let (x, d, _) = reach-out (successors n m from sets) (has from) part t e in true≢false (sym d ∙ ap (λ (y : ℕ). has y x) z ∙ has-empty x)) reached
+
+  pub held-whole : {g : ℕ} → g ≡ longest (successors n m from sets) part → take g part ≡ part
+  held-whole = longest-whole _ (fit-within _ _ _ _ f below) part reached
 
 -- REFUSALS
 

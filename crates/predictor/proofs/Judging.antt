@@ -25,12 +25,13 @@ use Rattle.semiautomata.proofs.Computed.{reach-append, walkable-reach}
 use Rattle.semiautomata.proofs.Streaming.{length-snoc}
 use Rattle.walks.specs.Walking.{Letters}
 use Rattle.walks.proofs.Steps.{step-members}
-use Rattle.records.specs.Bytes.{heldFrom, decode, tidy, encode}
+use Rattle.walks.proofs.Words.{some-of, none-of}
+use Rattle.records.specs.Bytes.{decode, tidy}
 use Rattle.predictor.specs.Calls.{written, onto}
 use Rattle.records.specs.Taking.{takenInto, startedInto}
 use Rattle.predictor.specs.Parts.{resolving, opening, judged, isRefusal, lastAfter, fedInto, openedInto, Ready}
 use Rattle.predictor.proofs.Letters.{reach-letters}
-use Rattle.predictor.proofs.Standing.{some-of, none-of, By, base-below, Standing}
+use Rattle.predictor.proofs.Standing.{By, base-below, Standing}
 
 -- THE POSITION THAT IS DUE
 

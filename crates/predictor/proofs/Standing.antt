@@ -9,11 +9,11 @@ use native.Mathlib.Omega.{arith}
 use lib.Dec.{eqb, ltb, leb}
 use lib.ListN.{length, take, drop, length-drop}
 use lib.Seq.{length-take-le}
-use borrow.Author.Tests.{ltb-true, ltb-false, lt-ltb, le-ltb, leb-true, eqb-true, ne-eqb}
+use borrow.Author.Tests.{ltb-true, ltb-false, le-ltb, leb-true, eqb-true, ne-eqb}
 use Rattle.bitset.specs.Sets.{any, has, setOf, single}
 use Rattle.bitset.proofs.Tests.{and-out, decided}
-use Rattle.bitset.proofs.Below.{any-out, any-cong, any-none}
-use Rattle.bitset.proofs.Bits.{has-empty, fits, some-member, setOf-lt, has-setOf}
+use Rattle.bitset.proofs.Below.{any-out}
+use Rattle.bitset.proofs.Bits.{fits, has-setOf}
 use Rattle.semiautomata.specs.Semiautomaton.{Semiautomaton, Within}
 use Rattle.semiautomata.specs.Walks.{reach, walkable}
 use Rattle.semiautomata.specs.Successors.{successors, Fit}
@@ -24,20 +24,13 @@ use Rattle.semiautomata.proofs.Positions.{single-is}
 use Rattle.semiautomata.proofs.Successors.{fit-within}
 use Rattle.table.specs.Table.{initialOf, tableMeaning}
 use Rattle.walks.specs.Walking.{Letters}
+use Rattle.walks.proofs.Words.{some-of, none-of}
 use Rattle.table.proofs.Fitness.{Fitting}
 use Rattle.records.specs.Bytes.{heldFrom, heldCount, decode, tidy}
 use Rattle.records.specs.Taking.{regular}
 use Rattle.predictor.specs.Parts.{baseSet, standing}
 use Rattle.records.proofs.Bytes.{tidy-out}
 use Rattle.predictor.proofs.Letters.{reach-letters}
-
--- a set is empty exactly where its number is 0
-pub some-of : (n : ℕ) (p : ℕ → Bool) {x : ℕ} → x ≡ setOf n p → ¬ (x ≡ 0) → any n p ≡ true
-some-of n p {x} e h =
-    sym (any-cong n (has x) p (λ t g. rw (e, has-setOf, lt-ltb t n g))) ∙ some-member n x (omega (arith, h)) (rw e (setOf-lt n p))
-
-pub none-of : (n : ℕ) (p : ℕ → Bool) {x : ℕ} → x ≡ setOf n p → x ≡ 0 → any n p ≡ false
-none-of n p {x} e h = sym (any-cong n (has x) p (λ t g. rw (e, has-setOf, lt-ltb t n g))) ∙ rw h (any-none n (has 0) (λ t _. has-empty t))
 
 -- S by numbers: at most 64 states, its initial states those of the number `starts`
 pub record By (S : Semiautomaton) (starts : ℕ) : Type 0 where
@@ -145,6 +138,7 @@ pub record Standing (S : Semiautomaton) (k : ℕ) (bytes : List ℕ) (here : ℕ
   pub long : length (decode bytes .held) ≡ heldCount bytes
   pub letters : Letters (S .m) (decode bytes .held)
   pub is : here ≡ setOf (S .n) (reach S (base S k (decode bytes)) (decode bytes .held))
+  pub some : any (S .n) (reach S (base S k (decode bytes)) (decode bytes .held)) ≡ true
 
 module _ {S : Semiautomaton} {starts : ℕ} (b : By S starts) (k : ℕ) (bytes : List ℕ) (room : heldFrom + k ≤ length bytes) {here : ℕ} (at : here ≡ standing S k bytes) where
   passes : Bool
@@ -172,6 +166,7 @@ module _ {S : Semiautomaton} {starts : ℕ} (b : By S starts) (k : ℕ) (bytes :
             long = held-length k bytes room t;
             letters = reach-letters S (b .within) (base S k (decode bytes)) (decode bytes .held) x m;
             is = q;
+            some = some;
           }
 
   pub standing-none : here ≡ 0 → (tidy k bytes && sound S k (decode bytes)) ≡ false

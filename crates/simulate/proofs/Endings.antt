@@ -2,35 +2,25 @@
 -- Assumes nothing.
 use Prim.Native.Nat.{ℕ, _*_, _%_, _^_, _<_}
 use mathlib.Core.Bool.{not}
-use mathlib.Core.Path.{_≡_, refl, sym, _∙_, ap}
+use mathlib.Core.Path.{_≡_, sym, _∙_, ap}
 use mathlib.Core.List.{List, [], _∷_, _++_}
-use native.Mathlib.Omega.{arith}
-use native.Mathlib.Decide.{ℕ-discrete}
 use Rattle.bitset.specs.Sets.{any, has, setOf}
 use Rattle.bitset.proofs.Below.{any-cong}
 use Rattle.semiautomata.specs.Walks.{spells, step, reach}
 use Rattle.semiautomata.specs.Successors.{successors, Fit}
 use Rattle.semiautomata.proofs.Computed.{reach-append}
 use Rattle.walks.proofs.Steps.{bare, spells-bare, step-members}
-use Rattle.walks.proofs.Words.{walks, fails}
+use Rattle.walks.proofs.Words.{alone-reach}
 use Rattle.simulate.specs.Verdicts.{ends}
-use Rattle.simulate.proofs.Sets.{empty, inhabited}
 
 -- the set of s alone, as code writes it
 abbrev alone : ℕ → ℕ
 alone s = (1 * 2 ^ s) % 2 ^ 64
 
 module _ {n m : ℕ} {sets : List ℕ} (f : Fit n m sets) {s : ℕ} (h : s < n) where
-  -- a word leads s somewhere exactly where s can walk it
-  leads : (w : List ℕ) → any n (reach (bare n m sets) (has (alone s)) w) ≡ spells (bare n m sets) w s
-  leads w = elim (ℕ-discrete (setOf n (reach (bare n m sets) (has (alone s)) w)) 0) [
-    | yes z ↦ empty n _ refl z ∙ sym (fails f h w refl z)
-    | no ne ↦ inhabited n _ refl (omega arith) ∙ sym (walks f h w refl ne)
-  ]
-
   -- one letter more
   longer : (w : List ℕ) {r : ℕ} → r ≡ setOf n (reach (bare n m sets) (has (alone s)) w) → (a : ℕ) → any n (step (bare n m sets) (has r) a) ≡ spells (bare n m sets) (w ++ (a ∷ [])) s
-  longer w e a = rw e (any-cong n _ _ (λ t _. step-members (bare n m sets) _ a t)) ∙ rw (reach-append (bare n m sets) (has (alone s)) w (a ∷ [])) at (leads (w ++ (a ∷ [])))
+  longer w e a = rw e (any-cong n _ _ (λ t _. step-members (bare n m sets) _ a t)) ∙ rw (reach-append (bare n m sets) (has (alone s)) w (a ∷ [])) at (alone-reach f h (w ++ (a ∷ [])))
 
   pub stuck-ends : (w : List ℕ) {r : ℕ} → r ≡ setOf n (reach (bare n m sets) (has (alone s)) w)
       → not (any m (λ a. any n (step (bare n m sets) (has r) a))) ≡ ends (bare n m sets) w s

@@ -1,5 +1,4 @@
 pub mod Sets
-pub mod Longest
 pub mod Positions
 pub mod Endings
 pub mod Minimality

@@ -1,27 +1,21 @@
--- Numbers that stand for sets: whether they are empty, how many members they have, and what it means to be a member.
+-- Numbers that stand for sets: how many members they have, and what it means to be a member.
 -- Assumes nothing.
 use Prim.Native.Nat.{ℕ, _<_}
-use mathlib.Core.Bool.{Bool, true, false}
-use mathlib.Core.Path.{_≡_, sym, _∙_, ap}
+use mathlib.Core.Bool.{Bool, true}
+use mathlib.Core.Path.{_≡_, _∙_, ap}
 use lib.Dec.{ltb}
 use lib.Count.{ones}
 use borrow.Author.Tests.{lt-ltb}
-use Rattle.bitset.specs.Sets.{any, size, has, setOf}
+use Rattle.bitset.specs.Sets.{size, has, setOf}
 use Rattle.bitset.proofs.Tests.{and-out}
-use Rattle.bitset.proofs.Below.{any-cong, any-none, size-cong}
-use Rattle.bitset.proofs.Bits.{has-empty, some-member, setOf-lt, has-setOf}
+use Rattle.bitset.proofs.Below.{size-cong}
+use Rattle.bitset.proofs.Bits.{setOf-lt, has-setOf}
 use Rattle.bitset.proofs.Members.{ones-size}
 use Rattle.simulate.specs.Walking.{Stands}
 
 module _ (n : ℕ) (p : ℕ → Bool) where
   members : (t : ℕ) → t < n → has (setOf n p) t ≡ p t
   members t h = rw (has-setOf, lt-ltb t n h)
-
-  pub empty : {set : ℕ} → set ≡ setOf n p → set ≡ 0 → any n p ≡ false
-  empty e z = sym (any-cong n _ p members) ∙ rw (← e, z) (any-none n (has 0) (λ t h. has-empty t))
-
-  pub inhabited : {set : ℕ} → set ≡ setOf n p → 0 < set → any n p ≡ true
-  inhabited e h = sym (any-cong n _ p members) ∙ rw (← e) (some-member n _ h (rw e (setOf-lt n p)))
 
   pub counted : {set : ℕ} → set ≡ setOf n p → ones set ≡ size n p
   counted e = ap ones e ∙ ones-size n _ (setOf-lt n p) ∙ size-cong n _ p members

@@ -1,10 +1,10 @@
 // Whole walks on a prepared table, and verdicts on look-ahead words (document 01, Walks; Verdict on a look-ahead word).
-// Both judge what they are lent first; the walking itself is crate table's.
+// Both judge what they are lent first; the walking itself is crate walks'.
 ghost use mathlib.Core.Path.{_≡_};
 ghost use mathlib.Core.Bool.{not, _&&_};
 ghost use Prim.Native.Nat.{ℕ, _^_, _<_};
 ghost use Rattle.bitset.specs.Sets.{any, has, setOf};
-ghost use Rattle.semiautomata.specs.Walks.{step, longest};
+ghost use Rattle.semiautomata.specs.Walks.{step};
 ghost use Rattle.semiautomata.specs.Successors.{successors, Fit};
 ghost use Rattle.walks.specs.Walking.{Letters};
 ghost use Rattle.simulate.specs.Walking.{Walks};
@@ -29,24 +29,6 @@ pub enum Judged {
     Refused(u8),
 }
 
-// How many letters of the word can be walked from a set that is not empty.
-fn longest_walked(sets: &[u64], n: usize, m: usize, starts: u64, word: &[u8]) -> usize
-    requires { ⌜ Fit n m (now sets) × (starts < 2 ^ n) × (0 < starts) × Letters m (now word) ⌝ }
-    ensures { λ r. ⌜ r ≡ longest (successors n m starts (now (sets .entry))) (now (word .entry)) ⌝ }
-{
-    let mut here = starts;
-    let mut g: usize = 0;
-    while g < word.len() {
-        let next = walks::gather(sets, n, m, here, word[g] as usize);
-        if next.set == 0 {
-            return g;
-        }
-        here = next.set;
-        g += 1;
-    }
-    g
-}
-
 // A whole walk: g, and the possible states at positions 0 to g into the lent numbers.
 pub fn walk(table: &[u64], word: &[u8], out: &mut [u64]) -> Walked
     ensures { λ r. ⌜ Walks (now (table .entry)) (now (word .entry)) r (now (out .entry)) (now (out .exit)) ⌝ }
@@ -67,8 +49,7 @@ pub fn walk(table: &[u64], word: &[u8], out: &mut [u64]) -> Walked
     }
     let n = table[0] as usize;
     let sets = &table[4..];
-    let g = longest_walked(sets, n, m as usize, starts, word);
-    walks::trace(sets, n, m as usize, starts, &word[..g], out);
+    let g = walks::trace(sets, n, m as usize, starts, word, out);
     Walked::Upto(g)
 }
 

@@ -1,21 +1,23 @@
 -- Buffers into which the sets along a word are written one by one, forwards and back.
 -- Assumes nothing.
 use Prim.Native.Nat.{ℕ, suc, _+_, _-_, _^_, _≤_, _<_}
-use mathlib.Core.Bool.{Bool, _&&_}
-use mathlib.Core.Path.{_≡_, refl, _∙_}
+use mathlib.Core.Bool.{Bool, false, _&&_}
+use mathlib.Core.Path.{_≡_, refl, sym, _∙_, ap}
 use mathlib.Core.List.{List}
 use native.Mathlib.Omega.{arith}
 use native.Mathlib.Decide.{ℕ-discrete}
 use lib.ListN.{length, getD, take, drop, length-set}
 use lib.ListN as L
-use lib.Seq.{getD-set-same, getD-set-other, drop-set-lt}
+use lib.Seq.{length-take-le, take-take, drop-drop, getD-set-same, getD-set-other, drop-set-lt}
 use Rattle.bitset.specs.Sets.{any, has, setOf}
-use Rattle.bitset.proofs.Bits.{setOf-lt, setOf-cong}
-use Rattle.semiautomata.specs.Walks.{reach, possible}
-use Rattle.semiautomata.specs.Successors.{place}
+use Rattle.bitset.proofs.Bits.{setOf-lt, setOf-has, setOf-cong}
+use Rattle.semiautomata.specs.Walks.{reach, possible, longest}
+use Rattle.semiautomata.specs.Successors.{place, successors, Fit}
+use Rattle.semiautomata.proofs.Successors.{fit-within}
 use Rattle.walks.specs.Walking.{Letters, Written}
-use Rattle.walks.proofs.Steps.{bare}
-use Rattle.walks.proofs.Words.{back-set, possible-last}
+use Rattle.walks.proofs.Steps.{bare, reach-bare}
+use Rattle.walks.proofs.Words.{some-of, back-set, possible-last}
+use Rattle.walks.proofs.Longest.{longest-at}
 
 -- the sets f lo to f (hi - 1) are written; below lo and from k on nothing has changed
 pub record Filled (n k : ℕ) (f : ℕ → ℕ → Bool) (old : List ℕ) (lo hi : ℕ) (out : List ℕ) : Type 0 where
@@ -24,36 +26,80 @@ pub record Filled (n k : ℕ) (f : ℕ → ℕ → Bool) (old : List ℕ) (lo hi
   pub same : (j : ℕ) → j < lo → getD out j 0 ≡ getD old j 0
   pub rest : drop k out ≡ drop k old
 
-pub filled-none : (n k : ℕ) (f : ℕ → ℕ → Bool) (old : List ℕ) → Filled n k f old 0 0 old
-filled-none n k f old = record { long = refl; sets = λ j h g. absurd (omega arith); same = λ j h. refl; rest = refl }
-
 pub filled-last : (n k : ℕ) (f : ℕ → ℕ → Bool) (old : List ℕ) (i : ℕ) → getD old i 0 ≡ setOf n (f i) → Filled n k f old i (suc i) old
 filled-last n k f old i e = record { long = refl; sets = λ j h g. let q : j ≡ i = omega arith in rw q e; same = λ j h. refl; rest = refl }
 
-module _ {n k : ℕ} {f : ℕ → ℕ → Bool} {old out : List ℕ} {lo hi : ℕ} (o : Filled n k f old lo hi out) (long : k ≤ length old) where
-  -- one more set, in front or behind
-  more : (p v lo′ hi′ : ℕ) → p < k → lo′ ≤ lo → lo′ ≤ p → ((j : ℕ) → lo′ ≤ j → j < hi′ → ¬ (j ≡ p) → (lo ≤ j) × (j < hi)) → v ≡ setOf n (f p)
-      → Filled n k f old lo′ hi′ (L.set out p v)
-  more p v lo′ hi′ h a b inside e = record {
-    long = length-set out p v ∙ o .long;
-    sets = λ j x y. elim (ℕ-discrete j p) [
-      | yes q ↦ rw (q, getD-set-same out p v 0 (omega (arith, o .long))) e
-      | no q ↦ let (x, y) = inside j x y q in getD-set-other out p j v 0 q ∙ o .sets j x y
-    ];
-    same = λ j x. getD-set-other out p j v 0 (λ q. omega arith) ∙ o .same j (omega arith);
-    rest = drop-set-lt k out p v h ∙ o .rest;
-  }
-
-  pub filled-behind : (v : ℕ) → lo ≤ hi → hi < k → v ≡ setOf n (f hi) → Filled n k f old lo (hi + 1) (L.set out hi v)
-  filled-behind v a b = more hi v lo (hi + 1) b (omega arith) a (λ j x y ne. (x, omega arith))
-
-  pub filled-front : (v : ℕ) → 0 < lo → lo ≤ k → v ≡ setOf n (f (lo - 1)) → Filled n k f old (lo - 1) hi (L.set out (lo - 1) v)
-  filled-front v a b = more (lo - 1) v (lo - 1) hi (omega arith) (omega arith) (omega arith) (λ j x y ne. (omega arith, y))
+-- one more set, in front
+pub filled-front : {n k : ℕ} {f : ℕ → ℕ → Bool} {old out : List ℕ} {lo hi : ℕ} → Filled n k f old lo hi out → k ≤ length old → (v : ℕ) → 0 < lo → lo ≤ k → v ≡ setOf n (f (lo - 1))
+    → Filled n k f old (lo - 1) hi (L.set out (lo - 1) v)
+filled-front {k = k} {out = out} {lo = lo} o long v a b e = record {
+  long = length-set out (lo - 1) v ∙ o .long;
+  sets = λ j x y. elim (ℕ-discrete j (lo - 1)) [
+    | yes q ↦ rw (q, getD-set-same out (lo - 1) v 0 (omega (arith, o .long))) e
+    | no q ↦ getD-set-other out (lo - 1) j v 0 q ∙ o .sets j (omega arith) y
+  ];
+  same = λ j x. getD-set-other out (lo - 1) j v 0 (λ q. omega arith) ∙ o .same j (omega arith);
+  rest = drop-set-lt k out (lo - 1) v (omega arith) ∙ o .rest;
+}
 
 -- all sets are written
 module _ {n lo hi : ℕ} {f g : ℕ → ℕ → Bool} {w old out : List ℕ} (o : Filled n (suc (length w)) f old lo hi out) (e : (i x : ℕ) → f i x ≡ g i x) where
   pub filled-all : lo ≤ 0 → length w < hi → Written n w g old out
   filled-all a b = record { sets = λ i h. o .sets i (omega arith) (omega arith) ∙ setOf-cong n _ _ (λ x _. e i x); kept = o .rest }
+
+-- FORWARDS: the sets that the first 0 to g letters lead to are written, and `here`, the last of them, is not empty
+
+pub record Forth (n m : ℕ) (sets : List ℕ) (set : ℕ) (w old : List ℕ) (here g : ℕ) (out : List ℕ) : Type 0 where
+  pub at : g ≤ length w
+  pub is : here ≡ setOf n (reach (bare n m sets) (has set) (take g w))
+  pub some : ¬ (here ≡ 0)
+  pub long : length out ≡ length old
+  pub written : (j : ℕ) → j ≤ g → getD out j 0 ≡ setOf n (reach (bare n m sets) (has set) (take j w))
+  pub kept : drop (suc g) out ≡ drop (suc g) old
+
+pub forth-first : {n m : ℕ} {sets : List ℕ} {set : ℕ} {w : List ℕ} (old : List ℕ) → set < 2 ^ n → ¬ (set ≡ 0) → suc (length w) ≤ length old → Forth n m sets set w (L.set old 0 set) set 0 (L.set old 0 set)
+forth-first {n} {set = set} old h some room =
+    let e = sym (setOf-has n set h) in record {
+      at = omega arith;
+      is = e;
+      some = some;
+      long = refl;
+      written = λ j g. let z : j ≡ 0 = omega arith in rw (z, getD-set-same old 0 set 0 (omega arith)) e;
+      kept = refl;
+    }
+
+module _ {n m : ℕ} {sets : List ℕ} {set : ℕ} {w old : List ℕ} {here g : ℕ} {out : List ℕ} (o : Forth n m sets set w old here g out) where
+  pub forth-next : suc (length w) ≤ length old → g < length w → {next : ℕ} → next ≡ setOf n (reach (bare n m sets) (has set) (take (g + 1) w)) → ¬ (next ≡ 0)
+      → Forth n m sets set w old next (g + 1) (L.set out (g + 1) next)
+  forth-next room h {next} e some = record {
+    at = omega arith;
+    is = e;
+    some = some;
+    long = length-set out (g + 1) next ∙ o .long;
+    written = λ j l. elim (ℕ-discrete j (g + 1)) [
+      | yes q ↦ rw (q, getD-set-same out (g + 1) next 0 (omega (arith, o .long))) e
+      | no q ↦ getD-set-other out (g + 1) j next 0 q ∙ o .written j (omega arith)
+    ];
+    kept =
+        let q : suc (g + 1) ≡ suc g + 1 = omega arith in
+        drop-set-lt (suc (g + 1)) out (g + 1) next (omega arith) ∙ rw q (sym (drop-drop 1 (suc g) out) ∙ ap (drop 1) (o .kept) ∙ drop-drop 1 (suc g) old);
+  }
+
+  -- where the letters end, or the next one leads nowhere
+  pub forth-longest : Fit n m sets → set < 2 ^ n → (g < length w → any n (reach (bare n m sets) (has set) (take (g + 1) w)) ≡ false) → g ≡ longest (successors n m set sets) w
+  forth-longest f below next =
+      longest-at (successors n m set sets) (fit-within n m set sets f below) w g (o .at)
+      (rw (reach-bare n m set sets (has set) (take g w)) (some-of n _ (o .is) (o .some)))
+      (λ h. rw (reach-bare n m set sets (has set) (take (g + 1) w)) (next h))
+
+-- the buffer keeps its rest also from before the first set was written
+pub forth-written : {n m : ℕ} {sets : List ℕ} {set : ℕ} {w old : List ℕ} {here g : ℕ} {out : List ℕ} → Forth n m sets set w (L.set old 0 set) here g out
+    → Written n (take g w) (λ i. reach (bare n m sets) (has set) (take i (take g w))) old out
+forth-written {set = set} {w = w} {old = old} {g = g} o =
+    let e = length-take-le g w (o .at) in record {
+      sets = λ i h. let h : i ≤ g = rw e at h in rw (take-take i g w h) (o .written i h);
+      kept = rw e (o .kept ∙ drop-set-lt (suc g) old 0 set (omega arith));
+    }
 
 -- BACKWARDS: from place i on the possible states, below it what is reached
 

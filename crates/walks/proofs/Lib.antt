@@ -1,4 +1,5 @@
 pub mod Letters
 pub mod Steps
 pub mod Words
+pub mod Longest
 pub mod Filling

@@ -21,6 +21,17 @@ use Rattle.semiautomata.proofs.Computed.{reach-append, walkable-reach}
 use Rattle.semiautomata.proofs.Successors.{edge-is}
 use Rattle.walks.proofs.Steps.{bare, bare-within, step-members}
 
+-- a set is empty exactly where its number is 0
+module _ (n : ℕ) (p : ℕ → Bool) {x : ℕ} (e : x ≡ setOf n p) where
+  members : any n (has x) ≡ any n p
+  members = any-cong n (has x) p (λ t g. rw (e, has-setOf, lt-ltb t n g))
+
+  pub some-of : ¬ (x ≡ 0) → any n p ≡ true
+  some-of h = sym members ∙ some-member n x (omega (arith, h)) (rw e (setOf-lt n p))
+
+  pub none-of : x ≡ 0 → any n p ≡ false
+  none-of h = sym members ∙ rw h (any-none n (has 0) (λ t _. has-empty t))
+
 -- where r holds, e implies q
 led : (n : ℕ) (r : Bool) (q p e : ℕ → Bool) → (r ≡ true → (t : ℕ) → e t ≡ true → q t ≡ true)
     → (r && any n (λ t. (q t && p t) && e t)) ≡ (r && any n (λ t. e t && p t))
@@ -81,13 +92,11 @@ module _ {n m : ℕ} {sets : List ℕ} (f : Fit n m sets) {s : ℕ} (h : s < n) 
         (λ e. any-in n _ s h (and-in _ _ (alone-has s ∙ eq-eqb s s refl) e))
 
     -- s can walk the word exactly where the word leads somewhere
-    alone-reach : any n (has (setOf n (reach (bare n m sets) (has (alone s)) w))) ≡ spells (bare n m sets) w s
-    alone-reach =
-        any-cong n _ _ (λ t g. rw (has-setOf, lt-ltb t n g))
-        ∙ sym (walkable-reach (bare n m sets) (bare-within f) (has (alone s)) (λ t e. has-lt n (alone s) t alone-lt e) w) ∙ alone-walkable
+    pub alone-reach : any n (reach (bare n m sets) (has (alone s)) w) ≡ spells (bare n m sets) w s
+    alone-reach = sym (walkable-reach (bare n m sets) (bare-within f) (has (alone s)) (λ t e. has-lt n (alone s) t alone-lt e) w) ∙ alone-walkable
 
     pub walks : {r : ℕ} → r ≡ setOf n (reach (bare n m sets) (has (alone s)) w) → ¬ (r ≡ 0) → spells (bare n m sets) w s ≡ true
-    walks {r} e ne = rw (← alone-reach, ← e) (some-member n r (omega (arith, ne)) (rw e (setOf-lt n _)))
+    walks e ne = sym alone-reach ∙ some-of n _ e ne
 
     pub fails : {r : ℕ} → r ≡ setOf n (reach (bare n m sets) (has (alone s)) w) → r ≡ 0 → spells (bare n m sets) w s ≡ false
-    fails {r} e z = rw (← alone-reach, ← e, z) (any-none n (has 0) (λ t g. has-empty t))
+    fails e z = sym alone-reach ∙ none-of n _ e z

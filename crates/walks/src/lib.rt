@@ -5,7 +5,7 @@ ghost use mathlib.Core.Bool.{_&&_};
 ghost use Prim.Native.Nat.{ℕ, suc, _^_, _≤_, _<_};
 ghost use lib.ListN.{length, getD, take};
 ghost use Rattle.bitset.specs.Sets.{any, size, has, setOf};
-ghost use Rattle.semiautomata.specs.Walks.{step, reach, survivors, possible};
+ghost use Rattle.semiautomata.specs.Walks.{step, reach, survivors, possible, longest};
 ghost use Rattle.semiautomata.specs.Successors.{place, successors, Fit};
 ghost use Rattle.walks.specs.Walking.{letterOff, Letters, Written};
 
@@ -90,18 +90,25 @@ pub fn survivors_of(sets: &[u64], n: usize, m: usize, set: u64, word: &[u8]) -> 
     out
 }
 
-// The sets that the first 0, 1, 2, .. letters of a word lead to from a set.
-fn forward(sets: &[u64], n: usize, m: usize, set: u64, word: &[u8], out: &mut [u64])
-    requires { ⌜ Fit n m (now sets) × (set < 2 ^ n) × Letters m (now word) × (suc (length (now word)) ≤ length (now out)) ⌝ }
-    ensures { λ r. ⌜ ((starts : ℕ) → Written n (now (word .entry)) (λ i. reach (successors n m starts (now (sets .entry))) (has set) (take i (now (word .entry)))) (now (out .entry)) (now (out .exit))) ⌝ }
+// Stores what the first 0, 1, 2, .. letters of a word lead to from a set that is not empty, while that is not empty; answers how many
+// letters can be walked.
+fn forward(sets: &[u64], n: usize, m: usize, set: u64, word: &[u8], out: &mut [u64]) -> usize
+    requires { ⌜ Fit n m (now sets) × (set < 2 ^ n) × ¬ (set ≡ 0) × Letters m (now word) × (suc (length (now word)) ≤ length (now out)) ⌝ }
+    ensures { λ g. ⌜ (g ≡ longest (successors n m set (now (sets .entry))) (now (word .entry))) × Written n (take g (now (word .entry))) (λ i. reach (successors n m 0 (now (sets .entry))) (has set) (take i (take g (now (word .entry))))) (now (out .entry)) (now (out .exit)) ⌝ }
 {
+    out[0] = set;
     let mut here = set;
-    for i in 0..word.len() {
-        out[i] = here;
-        let next = gather(sets, n, m, here, word[i] as usize);
+    let mut g: usize = 0;
+    while g < word.len() {
+        let next = gather(sets, n, m, here, word[g] as usize);
+        if next.set == 0 {
+            return g;
+        }
         here = next.set;
+        g += 1;
+        out[g] = here;
     }
-    out[word.len()] = here;
+    g
 }
 
 // From such sets, from the last one back, those states from which the other letters can be walked.
@@ -116,11 +123,13 @@ fn backward(sets: &[u64], n: usize, m: usize, set: u64, word: &[u8], out: &mut [
     }
 }
 
-// The possible states at each position of a word walked from a set.
-pub fn trace(sets: &[u64], n: usize, m: usize, set: u64, word: &[u8], out: &mut [u64])
-    requires { ⌜ Fit n m (now sets) × (set < 2 ^ n) × Letters m (now word) × (suc (length (now word)) ≤ length (now out)) ⌝ }
-    ensures { λ r. ⌜ ((starts : ℕ) → Written n (now (word .entry)) (possible (successors n m starts (now (sets .entry))) (has set) (now (word .entry))) (now (out .entry)) (now (out .exit))) ⌝ }
+// The possible states at each position of the longest beginning of a word that can be walked from a set that is not empty; answers the
+// length of that beginning.
+pub fn trace(sets: &[u64], n: usize, m: usize, set: u64, word: &[u8], out: &mut [u64]) -> usize
+    requires { ⌜ Fit n m (now sets) × (set < 2 ^ n) × ¬ (set ≡ 0) × Letters m (now word) × (suc (length (now word)) ≤ length (now out)) ⌝ }
+    ensures { λ g. ⌜ (g ≡ longest (successors n m set (now (sets .entry))) (now (word .entry))) × ((starts : ℕ) → Written n (take g (now (word .entry))) (possible (successors n m starts (now (sets .entry))) (has set) (take g (now (word .entry)))) (now (out .entry)) (now (out .exit))) ⌝ }
 {
-    forward(sets, n, m, set, word, out);
-    backward(sets, n, m, set, word, out);
+    let g = forward(sets, n, m, set, word, out);
+    backward(sets, n, m, set, &word[..g], out);
+    g
 }

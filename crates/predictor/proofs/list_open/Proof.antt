@@ -1,16 +1,18 @@
 -- `list_open` meets its contract: the possible states are traced into a buffer, and the last of them copied.
 -- Assumes nothing.
-use Prim.Native.Nat.{suc, _+_, _-_, _≤_}
+use Prim.Native.Nat.{suc, _+_, _-_, _^_, _≤_, _<_}
 use mathlib.Core.Path.{_≡_, refl, sym}
 use native.Mathlib.Omega.{arith}
 use lib.ListN.{length, take, drop, length-take, length-drop}
+use Rattle.bitset.specs.Sets.{has}
 use Rattle.semiautomata.specs.Semiautomaton.{Semiautomaton}
 use Rattle.semiautomata.specs.Successors.{successors}
+use Rattle.semiautomata.specs.Streaming.{base}
 use Rattle.records.specs.Bytes.{decode}
 use Rattle.predictor.specs.Parts.{standing}
 use Rattle.records.proofs.Bytes.{part-first, part-whole}
 use Rattle.predictor.proofs.Standing.{By, by-sets, from-is, from-lt, Standing, standing-some}
-use Rattle.predictor.proofs.Ending.{open-sets, open-count}
+use Rattle.predictor.proofs.Ending.{open-sets, open-count, base-some, held-whole}
 use borrow.Author.Needs.{needs}
 use Rattle.predictor.proofs.list_open.Statement.{statement}
 use Rattle.predictor.proofs.list_open.Tie as tie
@@ -36,8 +38,18 @@ part c = part-first 8 _ _ (start c .args .rec .now) (c .held-of .ensures)
 long : (c : tie.After-trace) → length (c .trace .last .1 .1 .1 .1 .1 .0) ≡ 2017
 long c = c .trace .kept .1 .1 .1 .1 .1 .0
 
-abbrev held-before : tie.After-trace → tie.After-held-of
-held-before c = c .before .before .before .before .before .before
+abbrev based : tie.After-trace → tie.After-base-of
+based c = c .before .before .before
+
+abbrev held-before : tie.After-base-of → tie.After-held-of
+held-before c = c .before .before .before
+
+-- the base
+is : (c : tie.After-base-of) → let s = start (held-before c) in has (c .base-of .result) ≡ base (meaning s) (s .args .k) (decode (s .args .rec .now))
+is c = let s = start (held-before c) in from-is (by s) _ (decode (s .args .rec .now)) (stands s .keeps .last-lt) (c .base-of .ensures) (c .before .before .fed-of .ensures)
+
+below : (c : tie.After-base-of) → c .base-of .result < 2 ^ start (held-before c) .args .n
+below c = let s = start (held-before c) in from-lt (by s) _ (decode (s .args .rec .now)) (stands s .keeps .last-lt) (c .base-of .ensures) (c .before .before .fed-of .ensures)
 
 held-of-requires : tie.Need-held-of-requires
 held-of-requires c κs = search needs
@@ -67,13 +79,15 @@ slice-aggregate-trace : tie.Need-slice-aggregate-trace
 slice-aggregate-trace c = search needs
 
 trace-requires : tie.Need-trace-requires
-trace-requires c κs = let h = c .before .before .before .before .before in
+trace-requires c κs =
+    let b = c .before .before in
+    let h = held-before b in
     let s = start h in
-    let a = s .args in
     let o = stands s in
     let q = part h in (
       s .pre .0,
-      from-lt (by s) _ (decode (a .rec .now)) (o .keeps .last-lt) (c .before .before .base-of .ensures) (c .before .before .before .before .fed-of .ensures),
+      below b,
+      base-some (s .args .starts) (s .pre .0) (below b) o (is b) q,
       rw q (o .letters),
       rw (q, o .long, o .keeps .held-is) (omega (arith, s .pre .3)),
     )
@@ -104,28 +118,28 @@ part-copy-end c = search needs
 
 copy-requires : tie.Need-copy-requires
 copy-requires c κs = let t = c .before .before .before .before .before in
-    let h = held-before t in
+    let h = held-before (based t) in
     (simp (length-take, length-drop) (omega (arith, long t, few h, c .before .before .before .lesser .ensures)), omega (arith, c .before .before .before .lesser .ensures, start h .pre .4))
 
 same-length : tie.Need-same-length
 same-length c = search needs
 
 returns : tie.Need-returns
-returns c = let t = c .before .before .before .before .before .before .before .before in
-    let g = held-before t in
+returns c =
+    let t = c .before .before .before .before .before .before .before .before in
+    let b = based t in
+    let g = held-before b in
     let s = start g in
     let a = s .args in
     let o = stands s in
     let all = t .trace .last .1 .1 .1 .1 .1 .0 in
     let h = g .held-of .result in
-    let count = c .before .before .before .before .before .before .lesser .result in
-    let from = c .before .before .before .before .before .before .before .before .before .before .before .base-of .result in
-    let is = from-is (by s) _ (decode (a .rec .now)) (o .keeps .last-lt) (c .before .before .before .before .before .before .before .before .before .before .before .base-of .ensures) (c .before .before .before .before .before .before .before .before .before .before .before .before .before .fed-of .ensures) in
-    let w = t .trace .ensures (a .starts) in
+    let count = c .before .before .before .before .before .before .lesser in
+    let w = rw (held-whole (a .starts) (s .pre .0) (below b) o (is b) (part g) (t .trace .ensures .0)) at (t .trace .ensures .1 (a .starts)) in
     let room : suc h ≤ length all = omega (arith, long t, few g) in
-    let sets = open-sets (meaning s) (a .k) (a .rec .now) o from is (part g) w h count (g .held-of .ensures) room (c .before .before .before .before .before .before .lesser .ensures) in
-    let number = open-count (meaning s) (a .k) (a .rec .now) o from is (part g) w h count (g .held-of .ensures) room (c .before .before .before .before .before .before .lesser .ensures) in
-    let whole = part-whole (h + 1 - count) (2017 - (h + 1 - count)) all (omega (arith, long t)) in
+    let sets = open-sets (meaning s) (a .k) (a .rec .now) o _ (is b) (part g) w h (count .result) (g .held-of .ensures) room (count .ensures) in
+    let number = open-count (meaning s) (a .k) (a .rec .now) o _ (is b) (part g) w h (count .result) (g .held-of .ensures) room (count .ensures) in
+    let whole = part-whole (h + 1 - count .result) (2017 - (h + 1 - count .result)) all (omega (arith, long t)) in
     (sym number, rw (number, sets) (rw whole at (c .before .before .copy .ensures)))
 
 pub list-open-spec : {M : Type 1} → statement M

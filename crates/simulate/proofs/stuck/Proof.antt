@@ -9,7 +9,7 @@ use Rattle.bitset.specs.Sets.{any, has}
 use Rattle.bitset.proofs.Below.{any-in}
 use Rattle.semiautomata.specs.Walks.{step}
 use Rattle.semiautomata.specs.Successors.{successors}
-use Rattle.simulate.proofs.Sets.{empty, inhabited}
+use Rattle.walks.proofs.Words.{some-of, none-of}
 use Rattle.simulate.proofs.stuck.Statement.{statement}
 use Rattle.simulate.proofs.stuck.Tie as tie
 
@@ -30,7 +30,7 @@ gather-requires c κs = let p = c .before .before .before .pre in (p .0, p .1, c
 returns : tie.Need-returns Inv-loop μ-loop
 returns c starts =
     let t = c .before .before .before in
-    sym (ap not (any-in _ _ _ (t .loop-test .taken) (inhabited _ _ (c .before .before .gather .ensures .0 starts) (omega (arith, c .if1 .taken)))))
+    sym (ap not (any-in _ _ _ (t .loop-test .taken) (some-of _ _ (c .before .before .gather .ensures .0 starts) (c .if1 .taken))))
 
 add-letter : tie.Need-add-letter Inv-loop μ-loop
 add-letter c = omega arith
@@ -40,7 +40,7 @@ loop-less c = omega arith
 
 loop-again : tie.Need-loop-again Inv-loop μ-loop
 unfolding any
-loop-again c = (omega arith, λ starts. rw (add-one, c .before .before .before .before .loop .inv .1 starts) (empty _ _ (c .before .before .gather .ensures .0 starts) (c .if1 .left)))
+loop-again c = (omega arith, λ starts. rw (add-one, c .before .before .before .before .loop .inv .1 starts) (none-of _ _ (c .before .before .gather .ensures .0 starts) (c .if1 .left)))
 
 returns-2 : tie.Need-returns-2 Inv-loop μ-loop
 returns-2 c starts =

@@ -5,8 +5,7 @@ use mathlib.Core.Bool.{true, false}
 use mathlib.Core.Path.{_≡_, refl, sym, _∙_}
 use native.Mathlib.Omega.{arith}
 use lib.Dec.{ltb}
-use lib.ListN.{length, length-take}
-use lib.Seq.{length-take-le}
+use lib.ListN.{length}
 use borrow.Author.Needs.{needs}
 use borrow.Author.Tests.{lt-ltb, le-ltb}
 use Rattle.bitset.specs.Sets.{any, has}
@@ -18,8 +17,8 @@ use Rattle.table.proofs.Fitness.{Fitting, fitting}
 use Rattle.walks.specs.Walking.{letterOff}
 use Rattle.simulate.specs.Walking.{walkRefusal}
 use Rattle.simulate.proofs.Lent.{lent}
-use Rattle.walks.proofs.Letters.{letters-below, letters-take}
-use Rattle.simulate.proofs.Longest.{longest-some}
+use Rattle.walks.proofs.Letters.{letters-below}
+use Rattle.walks.proofs.Longest.{longest-some}
 use Rattle.simulate.proofs.Positions.{written-stands, written-kept}
 use Rattle.simulate.proofs.walk.Statement.{statement}
 use Rattle.simulate.proofs.walk.Tie as tie
@@ -48,10 +47,10 @@ on c = sym (c .before .letter-off .ensures) ∙ c .if3 .left
 some : (c : tie.Else4) → let table = start (first c) .args .table .now in any (statesOf table) (has (initialOf table)) ≡ true
 some c = some-member _ _ (omega (arith, c .if4 .left)) (fit (first c) .initial)
 
-walked : (c : tie.After-longest-walked) → let a = start (first (c .before .before .before)) .args in Longest (tableMeaning (a .table .now)) (a .word .now) (c .longest-walked .result)
+walked : (c : tie.After-trace) → let a = start (first (c .before .before .before .before)) .args in Longest (tableMeaning (a .table .now)) (a .word .now) (c .trace .result)
 walked c =
-    let t = c .before .before .before in
-    rw (rw (lent 4 (start (first t) .args .table .now)) at (c .longest-walked .ensures)) (longest-some _ (fit (first t) .within) _ (some t))
+    let t = c .before .before .before .before in
+    rw (rw (lent 4 (start (first t) .args .table .now)) at (c .trace .ensures .0)) (longest-some _ (fit (first t) .within) _ (some t))
 
 -- THE NEEDS
 
@@ -102,23 +101,15 @@ part-sets-start c = omega (arith, fit (first (c .before)) .room)
 part-sets-end : tie.Need-part-sets-end
 part-sets-end c = search needs
 
-longest-walked-requires : tie.Need-longest-walked-requires
-longest-walked-requires c κs =
-    let t = c .before .before in
-    let f = fit (first t) in
-    (rw (lent 4 (start (first t) .args .table .now)) (f .fit), f .initial, omega (arith, t .if4 .left), letters-below _ _ (on (t .before .before)))
-
-slice-aggregate-trace : tie.Need-slice-aggregate-trace
-slice-aggregate-trace c = sym (length-take-le _ _ (walked (c .before) .fits))
-
 trace-requires : tie.Need-trace-requires
 trace-requires c κs =
-    let t = c .before .before .before .before .before in
+    let t = c .before .before .before in
     let f = fit (first t) in (
       rw (lent 4 (start (first t) .args .table .now)) (f .fit),
       f .initial,
-      letters-take (c .before .before .longest-walked .result) (letters-below _ _ (on (t .before .before))),
-      simp length-take (omega (arith, t .before .before .before .before .before .if2 .left)),
+      t .if4 .left,
+      letters-below _ _ (on (t .before .before)),
+      omega (arith, t .before .before .before .before .before .if2 .left),
     )
 
 same-length : tie.Need-same-length
@@ -127,11 +118,11 @@ same-length c = search needs
 returns-5 : tie.Need-returns-5
 unfolding walkRefusal
 returns-5 c =
-    let l = walked (c .before .before .before .before .before) in
-    let t = c .before .before .before .before .before .before .before .before in
+    let l = walked (c .before .before) in
+    let t = c .before .before .before .before .before .before in
     let W = fit (first t) .within in
     let table = start (first t) .args .table .now in
-    let o = rw (lent 4 table) at (c .before .before .trace .ensures (initialOf table)) in
+    let o = rw (lent 4 table) at (c .before .before .trace .ensures .1 (initialOf table)) in
     (rw (sound (first t), long (t .before .before .before .before .before), on (t .before .before), some t), l, written-stands _ W _ _ l o, written-kept _ W _ _ l o)
 
 pub walk-spec : {M : Type 1} → statement M
@@ -150,8 +141,6 @@ walk-spec =
     sub-sets
     part-sets-start
     part-sets-end
-    longest-walked-requires
-    slice-aggregate-trace
     trace-requires
     same-length
     returns-5)

@@ -1,84 +1,82 @@
--- `forward` meets its contract. Between two turns the sets before place i are written, and `here` is the next.
+-- `forward` meets its contract. Between two turns the sets up to place g are written, and `here`, the last of them, is not empty.
 -- Assumes nothing.
-use Prim.Native.Nat.{ℕ, suc, _-_, _≤_}
-use mathlib.Core.Bool.{Bool}
-use mathlib.Core.Path.{_≡_, sym, ap}
+use Prim.Native.Nat.{_-_}
+use mathlib.Core.Path.{_≡_, _∙_}
 use native.Mathlib.Omega.{arith}
-use lib.ListN.{length, take, length-set}
-use Rattle.bitset.specs.Sets.{has, setOf}
-use Rattle.bitset.proofs.Bits.{setOf-lt, setOf-has}
-use Rattle.semiautomata.specs.Walks.{reach}
-use Rattle.walks.proofs.Steps.{bare, reach-bare}
-use Rattle.walks.proofs.Words.{next-set}
-use Rattle.walks.proofs.Filling.{Filled, filled-none, filled-behind, filled-all}
+use lib.ListN.{length, length-set}
+use Rattle.bitset.proofs.Bits.{setOf-lt}
+use Rattle.walks.proofs.Words.{none-of, next-set}
+use Rattle.walks.proofs.Filling.{Forth, forth-first, forth-next, forth-longest, forth-written}
 use Rattle.walks.proofs.forward.Statement.{statement}
 use Rattle.walks.proofs.forward.Tie as tie
 
 abbrev Inv-loop : tie.InvT-loop
-Inv-loop sets n m set word out₀ here₀ i₀ i-end out here i =
-    (i ≤ length word)
-    × (here ≡ setOf n (reach (bare n m sets) (has set) (take i word)))
-    × Filled n (suc (length word)) (λ j. reach (bare n m sets) (has set) (take j word)) out₀ 0 i out
+Inv-loop sets n m set word out₀ here₀ g₀ out here g = Forth n m sets set word out₀ here g out
 
 abbrev μ-loop : tie.MeasureT-loop
-μ-loop sets n m set word out₀ here₀ i₀ i-end out here i = i-end - i
+μ-loop sets n m set word out₀ here₀ g₀ out here g = length word - g
 
-loop-holds : tie.Need-loop-holds Inv-loop μ-loop
-loop-holds c = (omega arith, sym (setOf-has _ _ (c .before .before .before .pre .1)), filled-none _ _ _ _)
+abbrev start : tie.At-loop Inv-loop μ-loop → tie.Start Inv-loop μ-loop
+start c = c .before .before .before .before
 
-mul-out : tie.Need-mul-out Inv-loop μ-loop
-mul-out c = omega arith
+long : (c : tie.At-loop Inv-loop μ-loop) → length (c .loop .out) ≡ length (start c .args .out .now)
+long c = let a = start c .args in c .loop .inv .long ∙ length-set (a .out .now) 0 (a .set)
 
 slice-write-out : tie.Need-slice-write-out Inv-loop μ-loop
-slice-write-out c = omega arith
+slice-write-out c = omega (arith, c .before .before .before .pre .4)
+
+loop-holds : tie.Need-loop-holds Inv-loop μ-loop
+loop-holds c = let s = c .before .before .before in let p = s .pre in forth-first (s .args .out .now) (p .1) (p .2) (p .4)
 
 shared-slice-read-gather : tie.Need-shared-slice-read-gather Inv-loop μ-loop
 shared-slice-read-gather c = omega arith
 
 cast-gather : tie.Need-cast-gather Inv-loop μ-loop
-cast-gather c = omega (arith, c .shared-slice-known3 .given (c .before .before .loop .i))
+cast-gather c = omega (arith, c .shared-slice-known3 .given (c .before .before .loop .g))
 
 gather-requires : tie.Need-gather-requires Inv-loop μ-loop
 gather-requires c κs =
-    let i = c .before .before .loop in
-    let p = c .before .before .before .before .before .before .pre in
-    (p .0, rw (i .inv .1) (setOf-lt _ _), p .2 .below (i .i) (c .before .loop-test .taken))
+    let t = c .before .before in
+    let p = start t .pre in
+    (p .0, rw (t .loop .inv .is) (setOf-lt _ _), p .3 .below (t .loop .g) (c .before .loop-test .taken))
 
-add-i : tie.Need-add-i Inv-loop μ-loop
-add-i c = omega arith
+same-length : tie.Need-same-length Inv-loop μ-loop
+same-length c = long (c .before .before .before .before .before)
+
+returns : tie.Need-returns Inv-loop μ-loop
+returns c =
+    let t = c .before .before .before .before .before in
+    let i = t .loop .inv in
+    let p = start t .pre in
+    (forth-longest i (p .0) (p .1) (λ h. none-of _ _ (next-set _ _ _ _ h _ _ (i .is) (c .before .before .gather .ensures .0 0)) (c .if1 .taken)), forth-written i)
+
+add-g : tie.Need-add-g Inv-loop μ-loop
+add-g c = omega arith
+
+mul-out : tie.Need-mul-out Inv-loop μ-loop
+mul-out c = omega arith
+
+slice-write-out-2 : tie.Need-slice-write-out-2 Inv-loop μ-loop
+slice-write-out-2 c = let t = c .before .before .before .before .before in omega (arith, long t, start t .pre .4)
 
 loop-less : tie.Need-loop-less Inv-loop μ-loop
 loop-less c = omega arith
 
 loop-again : tie.Need-loop-again Inv-loop μ-loop
 loop-again c =
-    let t = c .before .before in
+    let t = c .before .before .before .before in
     let i = t .before .loop .inv in
-    let p = t .before .before .before .before .before .pre in (
-      omega arith,
-      next-set _ _ _ _ (t .loop-test .taken) _ _ (i .1) (c .gather .ensures .0 0),
-      filled-behind (i .2) (p .3) _ (omega arith) (omega arith) (i .1),
-    )
+    let h = t .loop-test .taken in
+    forth-next i (rw length-set (start (t .before) .pre .4)) h (next-set _ _ _ _ h _ _ (i .is) (c .before .before .gather .ensures .0 0)) (c .if1 .left)
 
-mul-out-2 : tie.Need-mul-out-2 Inv-loop μ-loop
-mul-out-2 c = omega arith
+same-length-2 : tie.Need-same-length-2 Inv-loop μ-loop
+same-length-2 c = long (c .before)
 
-slice-write-out-2 : tie.Need-slice-write-out-2 Inv-loop μ-loop
-slice-write-out-2 c = omega arith
-
-same-length : tie.Need-same-length Inv-loop μ-loop
-same-length c = simp length-set (c .before .loop .inv .2 .long)
-
-returns : tie.Need-returns Inv-loop μ-loop
-returns c starts =
-    let i = c .before .loop in
-    let st = c .before .before .before .before .before in
-    let a = st .args in
-    let e : i .i ≡ length (a .word .now) = omega arith in
-    rw (← e)
-    (filled-all (filled-behind (i .inv .2) (st .pre .3) _ (omega arith) (omega arith) (i .inv .1))
-    (λ j x. ap (λ (X : ℕ → Bool). X x) (sym (reach-bare (a .n) (a .m) starts (a .sets .now) (has (a .set)) (take j (a .word .now)))))
-    (omega arith) (omega arith))
+returns-2 : tie.Need-returns-2 Inv-loop μ-loop
+returns-2 c =
+    let i = c .before .loop .inv in
+    let p = start (c .before) .pre in
+    (forth-longest i (p .0) (p .1) (λ h. absurd (omega (arith, c .loop-test .left))), forth-written i)
 
 pub forward-spec : {M : Type 1} → statement M
 forward-spec =
@@ -86,16 +84,17 @@ forward-spec =
     (tie.spec
     Inv-loop
     μ-loop
-    loop-holds
-    mul-out
     slice-write-out
+    loop-holds
     shared-slice-read-gather
     cast-gather
     gather-requires
-    add-i
+    same-length
+    returns
+    add-g
+    mul-out
+    slice-write-out-2
     loop-less
     loop-again
-    mul-out-2
-    slice-write-out-2
-    same-length
-    returns)
+    same-length-2
+    returns-2)

@@ -1,27 +1,42 @@
 -- `trace` meets its contract: what `forward` writes is what `backward` asks for.
 -- Assumes nothing.
-use mathlib.Core.Path.{_∙_}
+use Prim.Native.Nat.{_≤_}
+use mathlib.Core.Path.{sym, _∙_}
+use native.Mathlib.Omega.{arith}
+use lib.ListN.{length}
+use lib.Seq.{length-take-le}
 use borrow.Author.Needs.{needs}
+use Rattle.walks.proofs.Letters.{letters-take}
+use Rattle.walks.proofs.Longest.{longest-le}
 use Rattle.walks.proofs.trace.Statement.{statement}
 use Rattle.walks.proofs.trace.Tie as tie
+
+abbrev start : tie.After-forward → tie.Start
+start c = c .before .before .before .before .before
+
+at : (c : tie.After-forward) → c .forward .result ≤ length (start c .args .word .now)
+at c = longest-le _ _ (c .forward .ensures .0)
 
 forward-requires : tie.Need-forward-requires
 forward-requires c κs = search needs
 
+slice-aggregate-backward : tie.Need-slice-aggregate-backward
+slice-aggregate-backward c = sym (length-take-le _ _ (at (c .before .before .before)))
+
 backward-requires : tie.Need-backward-requires
 backward-requires c κs =
-    let t = c .before .before .before in
-    let p = t .before .before .before .before .before .pre in
-    (p .0, p .1, p .2, rw (t .forward .kept .1 .1 .1 .1 .1 .0) (p .3), t .forward .ensures 0 .sets)
+    let t = c .before .before .before .before in
+    let p = start t .pre in
+    (p .0, p .1, letters-take (t .forward .result) (p .3), rw (length-take-le _ _ (at t), t .forward .kept .1 .1 .1 .1 .1 .0) (omega (arith, at t, p .4)), t .forward .ensures .1 .sets)
 
 same-length : tie.Need-same-length
 same-length c = search needs
 
 returns : tie.Need-returns
-returns c starts =
-    let t = c .before .before in
-    let b = t .backward .ensures starts in
-    record { sets = b .sets; kept = b .kept ∙ t .before .before .before .before .forward .ensures starts .kept }
+returns c =
+    let b = c .before .before .backward .ensures in
+    let f = c .before .before .before .before .before .before .before .forward .ensures in
+    (f .0, λ starts. record { sets = b starts .sets; kept = b starts .kept ∙ f .1 .kept })
 
 pub trace-spec : {M : Type 1} → statement M
-trace-spec = tie.close (tie.spec forward-requires backward-requires same-length returns)
+trace-spec = tie.close (tie.spec forward-requires slice-aggregate-backward backward-requires same-length returns)

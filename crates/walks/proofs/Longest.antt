@@ -7,13 +7,17 @@ use mathlib.Core.List.{List}
 use native.Mathlib.Omega.{arith}
 use native.Mathlib.Decide.{decLt}
 use lib.ListN.{length, take}
-use lib.Seq.{take-take}
+use lib.Seq.{take-all, take-length, take-take}
 use Rattle.bitset.specs.Sets.{any}
 use Rattle.bitset.proofs.Below.{with-any}
 use Rattle.semiautomata.specs.Semiautomaton.{Semiautomaton, Within}
 use Rattle.semiautomata.specs.Walks.{OnPlan, Longest, reach, longest}
 use Rattle.semiautomata.proofs.Paths.{spells-take}
-use Rattle.semiautomata.proofs.Computed.{walkable-in, walkable-out, walkable-reach, longest-unique, longest-is}
+use Rattle.semiautomata.proofs.Computed.{walkable-in, walkable-out, walkable-reach, greatest-le, longest-unique, longest-is}
+
+pub longest-le : (S : Semiautomaton) (w : List ℕ) {g : ℕ} → g ≡ longest S w → g ≤ length w
+unfolding longest
+longest-le S w e = rw e (greatest-le _ (length w))
 
 module _ (S : Semiautomaton) (W : Within S) (w : List ℕ) where
   pub longest-some : any (S .n) (S .initial) ≡ true → Longest S w (longest S w)
@@ -39,3 +43,7 @@ module _ (S : Semiautomaton) (W : Within S) (w : List ℕ) where
 
     pub longest-at : g ≡ longest S w
     longest-at = longest-unique S w g _ (record { fits = fits; walked = walked; most = most }) (longest-is S W (walked .start) (walked .from-it) w)
+
+  -- a word that leads somewhere is its own longest beginning
+  pub longest-whole : any (S .n) (reach S (S .initial) w) ≡ true → {g : ℕ} → g ≡ longest S w → take g w ≡ w
+  longest-whole some {g} e = take-all g w (omega (arith, e, longest-at (length w) (omega arith) (rw (take-length w) some) (λ h. absurd (omega arith))))
