@@ -9,37 +9,41 @@ use native.Mathlib.Numerals.{add-one}
 use native.Mathlib.Omega.{arith}
 use lib.Dec.{eqb, ltb, leb}
 use lib.ListN.{length, take, drop}
-use lib.Seq.{drop-nil}
+use lib.Seq.{take-length, take-append-le, drop-append-le, drop-nil}
 use borrow.Author.Tests.{lt-ltb, le-ltb, le-leb, lt-leb, eqb-true, eqb-false, leb-false, ltb-true, ltb-false}
 use Rattle.bitset.specs.Sets.{any, size, has, setOf}
 use Rattle.bitset.proofs.Tests.{and-out, decided}
-use Rattle.bitset.proofs.Below.{any-out, any-none, size-cong, Sole, size-sole, least-sole}
+use Rattle.bitset.proofs.Below.{any-none, size-cong, Sole, size-sole, least-sole}
 use Rattle.bitset.proofs.Bits.{has-empty, has-high, fits, some-member, setOf-lt, setOf-has, has-setOf, setOf-cong}
 use Rattle.bitset.proofs.Members.{ones-size}
 use Rattle.semiautomata.specs.Semiautomaton.{Semiautomaton}
 use Rattle.semiautomata.specs.Walks.{spells, step, reach, survivors, walkable, possible}
+use Rattle.semiautomata.specs.Successors.{successors}
 use Rattle.semiautomata.specs.Calls.{Reply, refused, resolved, nothing, Check, checked}
 use Rattle.semiautomata.specs.PlainWalk.{limit}
 use Rattle.semiautomata.specs.Streaming.{Rec, base, sound, latest, soleAt, resolve, settle, after, unopened, opened, feed, feedChecks}
 use Rattle.semiautomata.proofs.Computed.{reach-append, walkable-reach}
 use Rattle.semiautomata.proofs.Streaming.{length-snoc}
-use Rattle.walks.specs.Walking.{Letters}
-use Rattle.walks.proofs.Steps.{step-members}
-use Rattle.walks.proofs.Words.{some-of, none-of}
+use Rattle.walks.proofs.Steps.{reach-bare, step-members}
+use Rattle.walks.proofs.Words.{some-of, none-of, possible-last}
 use Rattle.records.specs.Bytes.{decode, tidy}
 use Rattle.predictor.specs.Calls.{written, onto}
 use Rattle.records.specs.Taking.{takenInto, startedInto}
 use Rattle.predictor.specs.Parts.{resolving, opening, judged, isRefusal, lastAfter, fedInto, openedInto, Ready}
-use Rattle.predictor.proofs.Letters.{reach-letters}
 use Rattle.predictor.proofs.Standing.{By, base-below, Standing}
 
 -- THE POSITION THAT IS DUE
 
--- the members of what is reached by the first letters from which the others can be walked
-pub due-set : (S : Semiautomaton) (X : ℕ → Bool) (w : List ℕ) (i : ℕ) {here out : ℕ} → here ≡ setOf (S .n) (reach S X (take i w))
-    → out ≡ setOf (S .n) (survivors S (has here) (drop i w)) → out ≡ setOf (S .n) (possible S X w i)
-unfolding possible
-due-set S X w i e d = d ∙ setOf-cong (S .n) _ _ (λ t g. rw (e, has-setOf, lt-ltb t (S .n) g))
+module _ (S : Semiautomaton) (X : ℕ → Bool) (u : List ℕ) (a : ℕ) where
+  -- k letters follow it: the members of what is reached before it that can walk these
+  pub due-set : (i : ℕ) → i ≤ length u → {here out : ℕ} → here ≡ setOf (S .n) (reach S X (take i u)) → out ≡ setOf (S .n) (survivors S (has here) (drop i u ++ (a ∷ [])))
+      → out ≡ setOf (S .n) (possible S X (u ++ (a ∷ [])) i)
+  unfolding possible
+  due-set i h e d = d ∙ setOf-cong (S .n) _ _ (λ t g. rw (take-append-le i u (a ∷ []) h, drop-append-le i u (a ∷ []) h, e, has-setOf, lt-ltb t (S .n) g))
+
+  -- none follows it: what all letters lead to
+  pub due-last : {next : ℕ} → next ≡ setOf (S .n) (reach S X (u ++ (a ∷ []))) → next ≡ setOf (S .n) (possible S X (u ++ (a ∷ [])) (suc (length u)))
+  due-last e = e ∙ setOf-cong (S .n) _ _ (λ t _. rw (take-length (u ++ (a ∷ [])), length-snoc u a) at (possible-last S X (u ++ (a ∷ [])) t))
 
 -- one member of a set below n, among 64
 sole-wide : (n : ℕ) (p : ℕ → Bool) → n ≤ 64 → (x : ℕ) → Sole n p x → Sole 64 (has (setOf n p)) x
@@ -76,6 +80,21 @@ module _ (S : Semiautomaton) (k : ℕ) (bytes : List ℕ) (a : ℕ) where
       go false t e = rw (judged, t)
       go true t e = rw (judged, t, feed, e)
 
+-- what the held letters and the new one lead to
+pub reached : {S : Semiautomaton} {k here : ℕ} {bytes : List ℕ} → Standing S k bytes here → (a : ℕ) {next : ℕ} → next ≡ setOf (S .n) (step S (has here) a)
+    → next ≡ setOf (S .n) (reach S (base S k (decode bytes)) (decode bytes .held ++ (a ∷ [])))
+reached {S} {k} {bytes = bytes} s a e =
+    e
+    ∙ setOf-cong (S .n) _ _ (λ t _. ap (λ (x : ℕ). step S (has x) a t) (s .is) ∙ step-members S (reach S (base S k (decode bytes)) (decode bytes .held)) a t)
+    ∙ ap (setOf (S .n)) (sym (reach-append S (base S k (decode bytes)) (decode bytes .held) (a ∷ [])))
+
+-- the same from the base as a number, whatever the initial states are
+pub reached-from : (n m starts others : ℕ) (sets : List ℕ) (from a : ℕ) {k here next : ℕ} {bytes part : List ℕ} → Standing (successors n m starts sets) k bytes here
+    → has from ≡ base (successors n m starts sets) k (decode bytes) → part ≡ decode bytes .held → next ≡ setOf n (step (successors n m starts sets) (has here) a)
+    → next ≡ setOf n (reach (successors n m others sets) (has from) (part ++ (a ∷ [])))
+reached-from n m starts others sets from a {part = part} s is held e =
+    rw (reach-bare n m others sets (has from) (part ++ (a ∷ [])), ← reach-bare n m starts sets (has from) (part ++ (a ∷ [])), is, held) (reached s a e)
+
 module _ {S : Semiautomaton} {k here starts : ℕ} {bytes : List ℕ} (s : Standing S k bytes here) (b : By S starts) (a : ℕ) where
   pub judged-11 : limit ≤ decode bytes .fed → refused 11 ≡ judged S k bytes a .reply
   unfolding judged feed
@@ -87,31 +106,17 @@ module _ {S : Semiautomaton} {k here starts : ℕ} {bytes : List ℕ} (s : Stand
     judged-12 g = rw (s .tidied, feed, s .is-sound, lt-leb limit (decode bytes .fed) h, le-leb (S .m) a g)
 
     module _ (g : a < S .m) {next : ℕ} (step-is : next ≡ setOf (S .n) (step S (has here) a)) where
-      w : List ℕ
-      w = decode bytes .held ++ (a ∷ [])
-
-      reached : next ≡ setOf (S .n) (reach S (base S k (decode bytes)) w)
-      unfolding w
-      reached =
-          step-is
-          ∙ setOf-cong (S .n) _ _ (λ t _. ap (λ (x : ℕ). step S (has x) a t) (s .is) ∙ step-members S (reach S (base S k (decode bytes)) (decode bytes .held)) a t)
-          ∙ ap (setOf (S .n)) (sym (reach-append S (base S k (decode bytes)) (decode bytes .held) (a ∷ [])))
-
-      walks : walkable S (base S k (decode bytes)) w ≡ any (S .n) (reach S (base S k (decode bytes)) w)
-      walks = walkable-reach S (b .within) (base S k (decode bytes)) (base-below b k (decode bytes) (s .keeps .last-lt)) w
+      walks : walkable S (base S k (decode bytes)) (decode bytes .held ++ (a ∷ [])) ≡ any (S .n) (reach S (base S k (decode bytes)) (decode bytes .held ++ (a ∷ [])))
+      walks = walkable-reach S (b .within) (base S k (decode bytes)) (base-below b k (decode bytes) (s .keeps .last-lt)) (decode bytes .held ++ (a ∷ []))
 
       pub judged-13 : next ≡ 0 → refused 13 ≡ judged S k bytes a .reply
-      unfolding judged feed w
-      judged-13 z = rw (s .tidied, feed, s .is-sound, lt-leb limit (decode bytes .fed) h, lt-leb (S .m) a g, walks ∙ none-of (S .n) _ reached z)
+      unfolding judged feed
+      judged-13 z = rw (s .tidied, feed, s .is-sound, lt-leb limit (decode bytes .fed) h, lt-leb (S .m) a g, walks ∙ none-of (S .n) _ (reached s a step-is) z)
 
       module _ (some : ¬ (next ≡ 0)) where
-        pub next-letters : Letters (S .m) (decode bytes .held ++ (a ∷ []))
-        unfolding w
-        next-letters = let (x, _, q) = any-out (S .n) _ (some-of (S .n) _ reached some) in reach-letters S (b .within) (base S k (decode bytes)) w x q
-
         settles : judged S k bytes a .reply ≡ settle S k (base S k (decode bytes)) (suc (decode bytes .fed)) (decode bytes .held ++ (a ∷ []))
-        unfolding judged feed w
-        settles = rw (s .tidied, feed, s .is-sound, lt-leb limit (decode bytes .fed) h, lt-leb (S .m) a g, walks ∙ some-of (S .n) _ reached some)
+        unfolding judged feed
+        settles = rw (s .tidied, feed, s .is-sound, lt-leb limit (decode bytes .fed) h, lt-leb (S .m) a g, walks ∙ some-of (S .n) _ (reached s a step-is) some)
 
         pub judged-nothing : suc (decode bytes .fed) < k → nothing ≡ judged S k bytes a .reply
         unfolding settle

@@ -1,12 +1,10 @@
 // Walks letter by letter (document 01, Walks): a record of bytes that is opened, fed and finished on a prepared table.
 // A call is judged and decided first, by what it reads; only then is the record written, and a refused call writes nothing.
 ghost use mathlib.Core.Path.{_≡_};
-ghost use mathlib.Core.Bool.{not};
 ghost use mathlib.Core.List.{[], _∷_, _++_};
 ghost use Prim.Native.Nat.{ℕ, suc, _+_, _-_, _^_, _≤_, _<_};
-ghost use lib.Dec.{ltb};
-ghost use lib.ListN.{length, getD, take, drop};
-ghost use Rattle.bitset.specs.Sets.{any, has, setOf};
+ghost use lib.ListN.{length, take, drop};
+ghost use Rattle.bitset.specs.Sets.{has, setOf};
 ghost use Rattle.semiautomata.specs.Walks.{reach, possible};
 ghost use Rattle.semiautomata.specs.Successors.{successors, Fit};
 ghost use Rattle.walks.specs.Walking.{Letters};
@@ -72,28 +70,26 @@ fn stand(sets: &[u64], n: usize, m: usize, k: usize, starts: u64, rec: &[u8]) ->
 
 // DECIDING
 
-// The letters of a word and one more, at the front of a buffer.
-fn join(out: &mut [u8], word: &[u8], letter: u8)
-    requires { ⌜ length (now word) < length (now out) ⌝ }
-    ensures { λ _. ⌜ take (suc (length (now (word .entry)))) (now (out .exit)) ≡ now (word .entry) ++ (letter ∷ []) ⌝ }
-{
-    for i in 0..word.len() {
-        out[i] = word[i];
-    }
-    out[word.len()] = letter;
-}
-
-// The possible states, once a letter is read behind the held ones, at the position that k letters then follow.
-fn due(sets: &[u64], n: usize, m: usize, k: usize, base: u64, held: &[u8], letter: u8) -> u64
-    requires { ⌜ Fit n m (now sets) × (base < 2 ^ n) × Letters m (now held ++ (letter ∷ [])) × (length (now held) ≤ 2016) × (k ≤ suc (length (now held))) ⌝ }
+// The possible states, once a letter is read behind the held ones and has led to `next`, at the position that k letters then follow.
+fn due(
+    sets: &[u64],
+    n: usize,
+    m: usize,
+    k: usize,
+    base: u64,
+    held: &[u8],
+    letter: u8,
+    next: u64,
+) -> u64
+    requires { ⌜ Fit n m (now sets) × (base < 2 ^ n) × Letters m (now held) × (letter < m) × (k ≤ suc (length (now held))) × ((starts : ℕ) → next ≡ setOf n (reach (successors n m starts (now sets)) (has base) (now held ++ (letter ∷ [])))) ⌝ }
     ensures { λ r. ⌜ ((starts : ℕ) → r ≡ setOf n (possible (successors n m starts (now (sets .entry))) (has base) (now (held .entry) ++ (letter ∷ [])) (suc (length (now (held .entry))) - k))) ⌝ }
 {
-    let mut word = [0u8; 2017];
-    join(&mut word, held, letter);
-    let end = held.len() + 1;
-    let i = end - k;
-    let here = walks::reach_by(sets, n, m, base, &word[..i]);
-    walks::survivors_of(sets, n, m, here, &word[i..end])
+    if k == 0 {
+        return next;
+    }
+    let i = held.len() + 1 - k;
+    let here = walks::reach_by(sets, n, m, base, &held[..i]);
+    walks::survivors_with(sets, n, m, here, &held[i..], letter as usize)
 }
 
 // A position is resolved where one state is possible.
@@ -138,7 +134,7 @@ fn decide(sets: &[u64], n: usize, m: usize, k: usize, starts: u64, rec: &[u8], l
     }
     let base = base_of(k, starts, fed, rec[4]);
     let end = 8 + records::held_of(rec);
-    let set = due(sets, n, m, k, base, &rec[8..end], letter);
+    let set = due(sets, n, m, k, base, &rec[8..end], letter, next.set);
     resolution(taken - k, set)
 }
 

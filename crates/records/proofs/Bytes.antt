@@ -7,7 +7,7 @@ use mathlib.Core.List.{List, [], _∷_, _++_, append-assoc, append-nil}
 use native.Mathlib.Omega.{arith}
 use lib.Dec.{eqb, leb}
 use lib.ListN.{length, getD, take, drop, replicate, length-append, length-drop, length-replicate, getD-replicate, drop-of-length-le, List·getD-append}
-use lib.Seq.{take-append-seam, getD-append-add, take-all, take-take, take-add, drop-at, length-take-le}
+use lib.Seq.{take-append-seam, getD-append-add, take-all}
 use borrow.Author.Tests.{leb-true, le-leb, lt-leb, eqb-true, not-true, not-false}
 use Rattle.bitset.specs.Sets.{any}
 use Rattle.bitset.proofs.Tests.{and-out}
@@ -101,13 +101,3 @@ part-back a n b ys F h e =
 -- up to a count
 pub part-first : (a h g : ℕ) (b : List ℕ) → h ≡ g → take (a + h - a) (drop a b) ≡ take g (drop a b)
 part-first a h g b e = let d : a + h - a ≡ g = omega arith in rw d
-
--- the two parts of a word that stands at the front of a buffer
-module _ (i c : ℕ) (word w : List ℕ) (h : i ≤ c) (e : take c word ≡ w) where
-  pub front-part : take i word ≡ take i w
-  front-part = rw (← e) (sym (take-take i c word h))
-
-  pub back-part : c ≤ length word → take (c - i) (drop i word) ≡ drop i w
-  back-part l =
-      let d : i + (c - i) ≡ c = omega arith in
-      sym (rw (← e, ← ap (λ (j : ℕ). take j word) d, take-add i (c - i) word) (drop-at (take i word) (take (c - i) (drop i word)) i (length-take-le i word (omega arith))))

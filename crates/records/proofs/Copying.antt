@@ -6,7 +6,7 @@ use mathlib.Core.List.{List, _++_}
 use native.Mathlib.Numerals.{add-one}
 use native.Mathlib.Omega.{arith}
 use lib.ListN.{length, getD, take, drop, set, length-set}
-use lib.Seq.{drop-cons, take-suc, set-at, append-snoc, take-all, take-at, length-take-le}
+use lib.Seq.{drop-cons, take-suc, set-at, append-snoc, take-all, length-take-le}
 
 -- the first i elements of s stand at the front of d
 pub record Copied (s d : List ℕ) (i : ℕ) (out : List ℕ) : Type 0 where
@@ -27,7 +27,3 @@ module _ {s d : List ℕ} {i : ℕ} {out : List ℕ} (o : Copied s d i out) wher
 
   pub copied-all : (k : ℕ) → i ≡ k → length s ≡ k → out ≡ s ++ drop k d
   copied-all k e l = o .is ∙ rw (e, take-all k s (omega arith))
-
-  -- the copied part alone
-  pub copied-front : (k : ℕ) → i ≡ k → length s ≡ k → take k out ≡ s
-  copied-front k e l = rw (copied-all k e l) (take-at s (drop k d) k l)

@@ -1,21 +1,21 @@
 -- What a word does over successor sets: the sets that its beginnings lead to, and the possible states at its positions.
 -- Assumes nothing.
-use Prim.Native.Nat.{ℕ, suc, _+_, _*_, _%_, _^_, _<_}
+use Prim.Native.Nat.{ℕ, suc, _+_, _-_, _*_, _%_, _^_, _<_}
 use mathlib.Core.Bool.{Bool, true, false, _&&_, and-true, and-false}
 use mathlib.Core.Path.{_≡_, refl, sym, _∙_, ap}
-use mathlib.Core.List.{List, [], _∷_}
+use mathlib.Core.List.{List, [], _∷_, _++_}
 use native.Mathlib.Omega.{arith}
 use native.Mathlib.Numerals.{add-one}
 use lib.Dec.{eqb}
 use lib.ListN.{length, getD, take, drop}
-use lib.Seq.{take-suc, drop-cons, drop-length}
+use lib.Seq.{take-suc, take-length, drop-cons, drop-length}
 use borrow.Author.Tests.{lt-ltb, eqb-true, eq-eqb, ne-eqb}
 use Rattle.bitset.specs.Sets.{any, has, setOf}
 use Rattle.bitset.proofs.Tests.{and-in, and-out, same-test}
 use Rattle.bitset.proofs.Below.{any-in, with-any, any-cong, any-none}
-use Rattle.bitset.proofs.Bits.{has-empty, has-lt, fits, some-member, setOf-lt, has-setOf, setOf-cong, has-shl}
+use Rattle.bitset.proofs.Bits.{has-empty, has-lt, fits, some-member, setOf-lt, setOf-has, has-setOf, setOf-cong, has-shl}
 use Rattle.semiautomata.specs.Semiautomaton.{Semiautomaton}
-use Rattle.semiautomata.specs.Walks.{spells, step, reach, walkable, possible}
+use Rattle.semiautomata.specs.Walks.{spells, step, reach, survivors, walkable, possible}
 use Rattle.semiautomata.specs.Successors.{place, Fit}
 use Rattle.semiautomata.proofs.Computed.{reach-append, walkable-reach}
 use Rattle.semiautomata.proofs.Successors.{edge-is}
@@ -74,7 +74,7 @@ possible-last S X w x = rw (drop-length w, and-true)
 
 -- A WORD FROM ONE STATE, whose set is `1 << s`
 
-abbrev alone : ℕ → ℕ
+abbrev pub alone : ℕ → ℕ
 alone s = (1 * 2 ^ s) % 2 ^ 64
 
 module _ {n m : ℕ} {sets : List ℕ} (f : Fit n m sets) {s : ℕ} (h : s < n) where
@@ -92,11 +92,20 @@ module _ {n m : ℕ} {sets : List ℕ} (f : Fit n m sets) {s : ℕ} (h : s < n) 
         (λ e. any-in n _ s h (and-in _ _ (alone-has s ∙ eq-eqb s s refl) e))
 
     -- s can walk the word exactly where the word leads somewhere
-    pub alone-reach : any n (reach (bare n m sets) (has (alone s)) w) ≡ spells (bare n m sets) w s
+    alone-reach : any n (reach (bare n m sets) (has (alone s)) w) ≡ spells (bare n m sets) w s
     alone-reach = sym (walkable-reach (bare n m sets) (bare-within f) (has (alone s)) (λ t e. has-lt n (alone s) t alone-lt e) w) ∙ alone-walkable
 
-    pub walks : {r : ℕ} → r ≡ setOf n (reach (bare n m sets) (has (alone s)) w) → ¬ (r ≡ 0) → spells (bare n m sets) w s ≡ true
-    walks e ne = sym alone-reach ∙ some-of n _ e ne
+  -- the same of one letter more
+  pub alone-step : (w : List ℕ) {r : ℕ} → r ≡ setOf n (reach (bare n m sets) (has (alone s)) w) → (a : ℕ) → any n (step (bare n m sets) (has r) a) ≡ spells (bare n m sets) (w ++ (a ∷ [])) s
+  alone-step w e a =
+      rw e (any-cong n _ _ (λ t _. step-members (bare n m sets) _ a t)) ∙ rw (reach-append (bare n m sets) (has (alone s)) w (a ∷ [])) at (alone-reach (w ++ (a ∷ [])))
 
-    pub fails : {r : ℕ} → r ≡ setOf n (reach (bare n m sets) (has (alone s)) w) → r ≡ 0 → spells (bare n m sets) w s ≡ false
-    fails e z = sym alone-reach ∙ none-of n _ e z
+-- WHO CAN WALK A WORD: all the empty one, and any other one by its last letter
+
+pub survivors-none : (S : Semiautomaton) (set : ℕ) → set < 2 ^ S .n → (w : List ℕ) → length w ≡ 0 → set ≡ setOf (S .n) (survivors S (has set) w)
+unfolding spells
+survivors-none S set h [] e = sym (setOf-cong (S .n) _ _ (λ s _. and-true (has set s)) ∙ setOf-has (S .n) set h)
+survivors-none S set h (a ∷ w) e = absurd (omega arith)
+
+pub by-last : (w : List ℕ) → ¬ (length w ≡ 0) → take (length w - 1) w ++ (getD w (length w - 1) 0 ∷ []) ≡ w
+by-last w h = let e : suc (length w - 1) ≡ length w = omega (arith, h) in sym (take-suc w (length w - 1) 0 (omega arith)) ∙ rw e (take-length w)

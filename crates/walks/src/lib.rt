@@ -1,7 +1,8 @@
 // Walks over successor sets, wherever these stand: in a table (lent as `&table[4..]`) or just loaded from a plan, and whatever the initial
-// states are. The letters of a word are tested (`letter_off`); one letter forth (`gather`) and back (`back`), a word (`reach_by`, `survivors_of`), every position of a word (`trace`).
+// states are. The letters of a word are tested (`letter_off`); one letter forth (`gather`) and back (`back`), a word (`reach_by`, `survivors_with`, `survivors_of`), every position of a word (`trace`).
 ghost use mathlib.Core.Path.{_≡_};
 ghost use mathlib.Core.Bool.{_&&_};
+ghost use mathlib.Core.List.{[], _∷_, _++_};
 ghost use Prim.Native.Nat.{ℕ, suc, _^_, _≤_, _<_};
 ghost use lib.ListN.{length, getD, take};
 ghost use Rattle.bitset.specs.Sets.{any, size, has, setOf};
@@ -73,21 +74,35 @@ pub fn reach_by(sets: &[u64], n: usize, m: usize, set: u64, word: &[u8]) -> u64
     out
 }
 
-// The members of a set that can walk the word; each is tested, also where it is the only one.
-pub fn survivors_of(sets: &[u64], n: usize, m: usize, set: u64, word: &[u8]) -> u64
-    requires { ⌜ Fit n m (now sets) × (set < 2 ^ n) × Letters m (now word) ⌝ }
-    ensures { λ r. ⌜ ((starts : ℕ) → r ≡ setOf n (survivors (successors n m starts (now (sets .entry))) (has set) (now (word .entry)))) ⌝ }
+// The members of a set that can walk the word and then one letter more; each is tested, also where it is the only one.
+pub fn survivors_with(sets: &[u64], n: usize, m: usize, set: u64, word: &[u8], letter: usize) -> u64
+    requires { ⌜ Fit n m (now sets) × (set < 2 ^ n) × Letters m (now word) × (letter < m) ⌝ }
+    ensures { λ r. ⌜ ((starts : ℕ) → r ≡ setOf n (survivors (successors n m starts (now (sets .entry))) (has set) (now (word .entry) ++ (letter ∷ [])))) ⌝ }
 {
     let mut out: u64 = 0;
     let mut rest = set;
     while rest != 0 {
         let member: u64 = 1 << u64::trailing_zeros(rest);
-        if reach_by(sets, n, m, member, word) != 0 {
+        let here = reach_by(sets, n, m, member, word);
+        let next = gather(sets, n, m, here, letter);
+        if next.set != 0 {
             out |= member;
         }
         rest &= rest - 1;
     }
     out
+}
+
+// The members of a set that can walk the word.
+pub fn survivors_of(sets: &[u64], n: usize, m: usize, set: u64, word: &[u8]) -> u64
+    requires { ⌜ Fit n m (now sets) × (set < 2 ^ n) × Letters m (now word) ⌝ }
+    ensures { λ r. ⌜ ((starts : ℕ) → r ≡ setOf n (survivors (successors n m starts (now (sets .entry))) (has set) (now (word .entry)))) ⌝ }
+{
+    if word.len() == 0 {
+        return set;
+    }
+    let last = word.len() - 1;
+    survivors_with(sets, n, m, set, &word[..last], word[last] as usize)
 }
 
 // Stores what the first 0, 1, 2, .. letters of a word lead to from a set that is not empty, while that is not empty; answers how many

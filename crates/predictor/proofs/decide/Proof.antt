@@ -13,7 +13,7 @@ use Rattle.semiautomata.specs.PlainWalk.{limit}
 use Rattle.records.specs.Bytes.{decode}
 use Rattle.records.proofs.Bytes.{part-first}
 use Rattle.predictor.proofs.Standing.{By, by-sets, from-is, from-lt, Standing, standing-some, standing-none}
-use Rattle.predictor.proofs.Judging.{judged-10, judged-11, judged-12, judged-13, next-letters, judged-nothing, judged-resolved}
+use Rattle.predictor.proofs.Judging.{judged-10, judged-11, judged-12, judged-13, reached-from, judged-nothing, judged-resolved}
 use borrow.Author.Needs.{needs}
 use Rattle.predictor.proofs.decide.Statement.{statement}
 use Rattle.predictor.proofs.decide.Tie as tie
@@ -143,12 +143,15 @@ due-requires c κs =
     let d = from-2 e in
     let s = start d in
     let o = stands d in
-    let q = part (c .before) in (
+    let q = part (c .before) in
+    let fed = e .before .fed-of .ensures in
+    let base = c .before .before .base-of in (
       s .pre .0,
-      from-lt (by s) _ (decode (s .args .rec .now)) (o .keeps .last-lt) (c .before .before .base-of .ensures) (e .before .fed-of .ensures),
-      rw q (next-letters o (by s) (s .args .letter) (room e) (below f) (next g) (h .before .if4 .left)),
-      rw (q, o .long, o .keeps .held-is) (omega (arith, s .pre .3)),
-      rw (q, o .long, o .keeps .held-is) (omega (arith, h .if5 .left, e .before .fed-of .ensures)),
+      from-lt (by s) _ (decode (s .args .rec .now)) (o .keeps .last-lt) (base .ensures) fed,
+      rw q (o .letters),
+      below f,
+      rw (q, o .long, o .keeps .held-is) (omega (arith, h .if5 .left, fed)),
+      λ starts. reached-from _ _ (s .args .starts) starts (s .args .sets .now) _ _ o (from-is (by s) _ (decode (s .args .rec .now)) (o .keeps .last-lt) (base .ensures) fed) q (next g),
     )
 
 resolution-requires : tie.Need-resolution-requires

@@ -1,9 +1,7 @@
 -- `due` meets its contract.
 -- Assumes nothing.
-use Prim.Native.Nat.{ℕ, suc, _+_, _-_}
-use mathlib.Core.Path.{_≡_, sym, _∙_, ap}
-use mathlib.Core.List.{List, [], _∷_, _++_}
-use native.Mathlib.Numerals.{add-one}
+use Prim.Native.Nat.{ℕ, suc, _+_, _-_, _≤_}
+use mathlib.Core.Path.{_≡_, sym}
 use native.Mathlib.Omega.{arith}
 use lib.ListN.{length, take, drop}
 use lib.Seq.{length-take-le}
@@ -11,93 +9,79 @@ use Rattle.bitset.specs.Sets.{has}
 use Rattle.bitset.proofs.Bits.{setOf-lt}
 use Rattle.semiautomata.specs.Successors.{successors}
 use Rattle.walks.proofs.Letters.{letters-take, letters-drop}
-use Rattle.records.proofs.Bytes.{front-part, back-part}
-use Rattle.predictor.proofs.Judging.{due-set}
+use Rattle.records.proofs.Bytes.{part-whole}
+use Rattle.predictor.proofs.Judging.{due-set, due-last}
 use borrow.Author.Needs.{needs}
 use Rattle.predictor.proofs.due.Statement.{statement}
 use Rattle.predictor.proofs.due.Tie as tie
 
-long : (c : tie.After-join) → length (c .join .last .0) ≡ 2017
-long c = c .join .kept .0
+abbrev start : tie.Else1 → tie.Start
+start c = c .before .before .before
 
-abbrev start : tie.After-join → tie.Start
-start c = c .before .before .before .before
+-- the position that is due, and the held letters behind it
+abbrev position : tie.Else1 → ℕ
+position c = length (start c .args .held .now) + 1 - start c .args .k
 
--- the position that is due, and the letters before and behind it
-abbrev position : tie.Start → ℕ
-position c = length (c .args .held .now) + 1 - c .args .k
+inside : (c : tie.Else1) → position c ≤ length (start c .args .held .now)
+inside c = omega (arith, c .if1 .left)
 
-abbrev word : tie.Start → List ℕ
-word c = c .args .held .now ++ (c .args .letter ∷ [])
+behind : (c : tie.Else1) → let h = start c .args .held .now in take (length h - position c) (drop (position c) h) ≡ drop (position c) h
+behind c = let h = start c .args .held .now in part-whole (position c) (length h - position c) h (omega (arith, inside c))
 
-first : (c : tie.After-join) → let s = start c in take (position s) (c .join .last .0) ≡ take (position s) (word s)
-first c = let s = start c in front-part (position s) (suc (length (s .args .held .now))) _ _ (omega arith) (c .join .ensures)
+returns : tie.Need-returns
+returns c starts =
+    let s = c .before .before .before in
+    let a = s .args in
+    let z : suc (length (a .held .now)) - a .k ≡ suc (length (a .held .now)) = omega (arith, c .if1 .taken) in
+    rw z (due-last (successors (a .n) (a .m) starts (a .sets .now)) (has (a .base)) (a .held .now) (a .letter) (s .pre .5 starts))
 
-second : (c : tie.After-join) → let s = start c in take (length (s .args .held .now) + 1 - position s) (drop (position s) (c .join .last .0)) ≡ drop (position s) (word s)
-second c =
-    let s = start c in
-    let n = length (s .args .held .now) in
-    back-part _ (n + 1) _ _ (omega arith) (ap (λ (j : ℕ). take j (c .join .last .0)) (add-one n) ∙ c .join .ensures) (omega (arith, long c, s .pre .3))
-
-slice-aggregate-join : tie.Need-slice-aggregate-join
-slice-aggregate-join c = search needs
-
-join-requires : tie.Need-join-requires
-join-requires c κs = search needs
-
-add-end : tie.Need-add-end
-add-end c = search needs
+add-i : tie.Need-add-i
+add-i c = search needs
 
 sub-i : tie.Need-sub-i
 sub-i c = search needs
 
-array-share-prefix-word : tie.Need-array-share-prefix-word
-array-share-prefix-word c = search needs
-
 slice-aggregate-reach-by : tie.Need-slice-aggregate-reach-by
-slice-aggregate-reach-by c = sym (length-take-le _ _ (omega (arith, long (c .before .before))))
+slice-aggregate-reach-by c = sym (length-take-le _ _ (inside (c .before)))
 
 reach-by-requires : tie.Need-reach-by-requires
-reach-by-requires c κs = let j = c .before .before in let s = start j in (s .pre .0, s .pre .1, rw (first j) (letters-take (position s) (s .pre .2)))
+reach-by-requires c κs = let e = c .before in let p = start e .pre in (p .0, p .1, letters-take (position e) (p .2))
 
-sub-survivors-of : tie.Need-sub-survivors-of
-sub-survivors-of c = search needs
+sub-survivors-with : tie.Need-sub-survivors-with
+sub-survivors-with c = search needs
 
-part-survivors-of-start : tie.Need-part-survivors-of-start
-part-survivors-of-start c = search needs
+part-survivors-with-start : tie.Need-part-survivors-with-start
+part-survivors-with-start c = search needs
 
-part-survivors-of-end : tie.Need-part-survivors-of-end
-part-survivors-of-end c = search needs
+part-survivors-with-end : tie.Need-part-survivors-with-end
+part-survivors-with-end c = search needs
 
-survivors-of-requires : tie.Need-survivors-of-requires
-survivors-of-requires c κs =
-    let j = c .before .before .before .before .before in
-    let s = start j in
-    (s .pre .0, rw (c .before .before .reach-by .ensures 0) (setOf-lt (s .args .n) _), rw (second j) (letters-drop (position s) (s .pre .2)))
+survivors-with-requires : tie.Need-survivors-with-requires
+survivors-with-requires c κs =
+    let e = c .before .before .before in
+    let s = start e in
+    (s .pre .0, rw (c .before .reach-by .ensures 0) (setOf-lt (s .args .n) _), rw (behind e) (letters-drop (position e) (s .pre .2)), s .pre .3)
 
-returns : tie.Need-returns
-returns c starts =
-    let j = c .before .before .before .before .before .before in
-    let s = start j in
-    let a = s .args in
-    let z : suc (length (a .held .now)) - a .k ≡ position s = omega arith in
+returns-2 : tie.Need-returns-2
+returns-2 c starts =
+    let e = c .before .before .before .before in
+    let a = start e .args in
+    let z : suc (length (a .held .now)) - a .k ≡ position e = omega arith in
     rw z
-    (due-set (successors (a .n) (a .m) starts (a .sets .now)) (has (a .base)) (word s) (position s) (rw (first j) at (c .before .before .before .reach-by .ensures starts))
-    (rw (second j) at (c .survivors-of .ensures starts)))
+    (due-set (successors (a .n) (a .m) starts (a .sets .now)) (has (a .base)) (a .held .now) (a .letter) (position e) (inside e) (c .before .before .reach-by .ensures starts)
+    (rw (behind e) at (c .survivors-with .ensures starts)))
 
 pub due-spec : {M : Type 1} → statement M
 due-spec =
     tie.close
     (tie.spec
-    slice-aggregate-join
-    join-requires
-    add-end
+    returns
+    add-i
     sub-i
-    array-share-prefix-word
     slice-aggregate-reach-by
     reach-by-requires
-    sub-survivors-of
-    part-survivors-of-start
-    part-survivors-of-end
-    survivors-of-requires
-    returns)
+    sub-survivors-with
+    part-survivors-with-start
+    part-survivors-with-end
+    survivors-with-requires
+    returns-2)

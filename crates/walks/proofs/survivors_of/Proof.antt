@@ -1,83 +1,53 @@
--- `survivors_of` meets its contract. Between two turns `out` has the members taken that can walk the word.
+-- `survivors_of` meets its contract: all can walk the empty word, and any other one goes by its last letter.
 -- Assumes nothing.
-use Prim.Native.Nat.{_<_}
-use mathlib.Core.Bool.{Bool, _&&_}
-use mathlib.Core.Logic.{⊎-elim}
-use mathlib.Core.Path.{sym, _∙_, ap}
+use Prim.Native.Nat.{_-_}
+use mathlib.Core.Path.{sym}
 use native.Mathlib.Omega.{arith}
-use lib.Count.{trailingZeros}
-use Rattle.bitset.specs.Sets.{has}
-use Rattle.bitset.proofs.Bits.{setOf-cong}
-use Rattle.bitset.proofs.Members.{strike-less}
-use Rattle.bitset.proofs.Taking.{Left, left-first, left-next, least-below, Picked, picked-first, picked-with, picked-without, picked-all}
-use Rattle.semiautomata.specs.Walks.{spells}
-use Rattle.walks.proofs.Steps.{bare, spells-bare}
-use Rattle.walks.proofs.Words.{alone-lt, walks, fails}
+use lib.ListN.{length}
+use lib.Seq.{length-take-le}
+use borrow.Author.Needs.{needs}
+use Rattle.semiautomata.specs.Successors.{successors}
+use Rattle.walks.proofs.Letters.{letters-take}
+use Rattle.walks.proofs.Words.{survivors-none, by-last}
 use Rattle.walks.proofs.survivors_of.Statement.{statement}
 use Rattle.walks.proofs.survivors_of.Tie as tie
 
-abbrev Inv-loop : tie.InvT-loop
-Inv-loop sets n m set word out₀ rest₀ out rest = Left n set rest × Picked set rest (spells (bare n m sets) word) out
-
-abbrev μ-loop : tie.MeasureT-loop
-μ-loop sets n m set word out₀ rest₀ out rest = rest
-
-module _ (c : tie.In-loop Inv-loop μ-loop) where
-  some : 0 < c .before .loop .rest
-  some = omega (arith, c .loop-test .taken)
-
-  small : trailingZeros 64 (c .before .loop .rest) < c .before .before .before .before .args .n
-  small = least-below (c .before .loop .inv .0) some
-
-loop-holds : tie.Need-loop-holds Inv-loop μ-loop
-loop-holds c = let p = c .before .before .pre in (left-first _ _ (p .0 .states) (p .1), picked-first _ _)
-
-cast-member : tie.Need-cast-member Inv-loop μ-loop
-cast-member c = omega (arith, small c, c .before .before .before .before .pre .0 .states)
-
-shl-member : tie.Need-shl-member Inv-loop μ-loop
-shl-member c = omega (arith, small c, c .before .before .before .before .pre .0 .states)
-
-reach-by-requires : tie.Need-reach-by-requires Inv-loop μ-loop
-reach-by-requires c κs = let p = c .before .before .before .before .pre in (p .0, alone-lt (p .0) (small c), p .2)
-
-sub-rest : tie.Need-sub-rest Inv-loop μ-loop
-sub-rest c = some (c .before .before)
-
-loop-less : tie.Need-loop-less Inv-loop μ-loop
-loop-less c = strike-less _ (some (c .before .before))
-
-loop-again : tie.Need-loop-again Inv-loop μ-loop
-loop-again c =
-    let t = c .before .before in
-    let i = t .before .loop .inv in
-    let f = t .before .before .before .before .pre .0 in
-    let p = some t in
-    let e = c .before .reach-by .ensures 0 in (
-      left-next (i .0) p,
-      ⊎-elim (λ w. rw (w .1) (picked-with (i .0) p (walks f (small t) _ e (w .0 .taken)) (i .1)))
-          (λ w. rw (w .1) (picked-without (i .0) p (fails f (small t) _ e (w .0 .left)) (i .1)))
-          (c .if1 .came),
-    )
-
-returns : tie.Need-returns Inv-loop μ-loop
+returns : tie.Need-returns
 returns c starts =
-    let i = c .before .loop .inv in
-    let a = c .before .before .before .before .args in
-    picked-all (i .0) (c .loop-test .left) (i .1)
-    ∙ setOf-cong _ _ _ (λ s _. ap (λ (b : Bool). has (a .set) s && b) (sym (spells-bare (a .n) (a .m) starts (a .sets .now) (a .word .now) s)))
+    let s = c .before .before .before in
+    let a = s .args in
+    survivors-none (successors (a .n) (a .m) starts (a .sets .now)) _ (s .pre .1) (a .word .now) (c .if1 .taken)
+
+sub-last : tie.Need-sub-last
+sub-last c = search needs
+
+slice-aggregate-survivors-with : tie.Need-slice-aggregate-survivors-with
+slice-aggregate-survivors-with c = sym (length-take-le _ _ (omega arith))
+
+shared-slice-read-survivors-with : tie.Need-shared-slice-read-survivors-with
+shared-slice-read-survivors-with c = search needs
+
+cast-survivors-with : tie.Need-cast-survivors-with
+cast-survivors-with c = omega (arith, c .shared-slice-known3 .given (length (c .before .before .before .before .before .args .word .now) - 1))
+
+survivors-with-requires : tie.Need-survivors-with-requires
+survivors-with-requires c κs =
+    let s = c .before .before .before .before .before in
+    let p = s .pre in
+    let last = length (s .args .word .now) - 1 in
+    (p .0, p .1, letters-take last (p .2), p .2 .below last (omega (arith, c .before .before .if1 .left)))
+
+returns-2 : tie.Need-returns-2
+returns-2 c starts = let t = c .before .before .before in rw (by-last (t .before .before .before .args .word .now) (t .if1 .left)) at (c .survivors-with .ensures starts)
 
 pub survivors-of-spec : {M : Type 1} → statement M
 survivors-of-spec =
     tie.close
     (tie.spec
-    Inv-loop
-    μ-loop
-    loop-holds
-    cast-member
-    shl-member
-    reach-by-requires
-    sub-rest
-    loop-less
-    loop-again
-    returns)
+    returns
+    sub-last
+    slice-aggregate-survivors-with
+    shared-slice-read-survivors-with
+    cast-survivors-with
+    survivors-with-requires
+    returns-2)
