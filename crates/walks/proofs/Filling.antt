@@ -1,7 +1,7 @@
 -- Buffers into which the sets along a word are written one by one, forwards and back.
 -- Assumes nothing.
 use Prim.Native.Nat.{ℕ, suc, _+_, _-_, _^_, _≤_, _<_}
-use mathlib.Core.Bool.{Bool, false, _&&_}
+use mathlib.Core.Bool.{false, _&&_}
 use mathlib.Core.Path.{_≡_, refl, sym, _∙_, ap}
 use mathlib.Core.List.{List}
 use native.Mathlib.Omega.{arith}
@@ -15,37 +15,9 @@ use Rattle.semiautomata.specs.Walks.{reach, possible, longest}
 use Rattle.semiautomata.specs.Successors.{place, successors, Fit}
 use Rattle.semiautomata.proofs.Successors.{fit-within}
 use Rattle.walks.specs.Walking.{Letters, Written}
-use Rattle.walks.proofs.Steps.{bare, reach-bare}
+use Rattle.walks.proofs.Steps.{bare, reach-bare, possible-bare}
 use Rattle.walks.proofs.Words.{some-of, back-set, possible-last}
 use Rattle.walks.proofs.Longest.{longest-at}
-
--- the sets f lo to f (hi - 1) are written; below lo and from k on nothing has changed
-pub record Filled (n k : ℕ) (f : ℕ → ℕ → Bool) (old : List ℕ) (lo hi : ℕ) (out : List ℕ) : Type 0 where
-  pub long : length out ≡ length old
-  pub sets : (j : ℕ) → lo ≤ j → j < hi → getD out j 0 ≡ setOf n (f j)
-  pub same : (j : ℕ) → j < lo → getD out j 0 ≡ getD old j 0
-  pub rest : drop k out ≡ drop k old
-
-pub filled-last : (n k : ℕ) (f : ℕ → ℕ → Bool) (old : List ℕ) (i : ℕ) → getD old i 0 ≡ setOf n (f i) → Filled n k f old i (suc i) old
-filled-last n k f old i e = record { long = refl; sets = λ j h g. let q : j ≡ i = omega arith in rw q e; same = λ j h. refl; rest = refl }
-
--- one more set, in front
-pub filled-front : {n k : ℕ} {f : ℕ → ℕ → Bool} {old out : List ℕ} {lo hi : ℕ} → Filled n k f old lo hi out → k ≤ length old → (v : ℕ) → 0 < lo → lo ≤ k → v ≡ setOf n (f (lo - 1))
-    → Filled n k f old (lo - 1) hi (L.set out (lo - 1) v)
-filled-front {k = k} {out = out} {lo = lo} o long v a b e = record {
-  long = length-set out (lo - 1) v ∙ o .long;
-  sets = λ j x y. elim (ℕ-discrete j (lo - 1)) [
-    | yes q ↦ rw (q, getD-set-same out (lo - 1) v 0 (omega (arith, o .long))) e
-    | no q ↦ getD-set-other out (lo - 1) j v 0 q ∙ o .sets j (omega arith) y
-  ];
-  same = λ j x. getD-set-other out (lo - 1) j v 0 (λ q. omega arith) ∙ o .same j (omega arith);
-  rest = drop-set-lt k out (lo - 1) v (omega arith) ∙ o .rest;
-}
-
--- all sets are written
-module _ {n lo hi : ℕ} {f g : ℕ → ℕ → Bool} {w old out : List ℕ} (o : Filled n (suc (length w)) f old lo hi out) (e : (i x : ℕ) → f i x ≡ g i x) where
-  pub filled-all : lo ≤ 0 → length w < hi → Written n w g old out
-  filled-all a b = record { sets = λ i h. o .sets i (omega arith) (omega arith) ∙ setOf-cong n _ _ (λ x _. e i x); kept = o .rest }
 
 -- FORWARDS: the sets that the first 0 to g letters lead to are written, and `here`, the last of them, is not empty
 
@@ -106,43 +78,61 @@ forth-written {set = set} {w = w} {old = old} {g = g} o =
 pub record Backed (n m : ℕ) (sets : List ℕ) (set : ℕ) (w old : List ℕ) (i : ℕ) (out : List ℕ) : Type 0 where
   pub letters : Letters m w
   pub room : suc (length w) ≤ length old
-  pub came : (j : ℕ) → j ≤ length w → getD old j 0 ≡ setOf n (reach (bare n m sets) (has set) (take j w))
   pub at : i ≤ length w
-  pub filled : Filled n (suc (length w)) (possible (bare n m sets) (has set) w) old i (suc (length w)) out
+  pub long : length out ≡ length old
+  pub below : (j : ℕ) → j < i → getD out j 0 ≡ setOf n (reach (bare n m sets) (has set) (take j w))
+  pub written : (j : ℕ) → i ≤ j → j ≤ length w → getD out j 0 ≡ setOf n (possible (bare n m sets) (has set) w j)
+  pub kept : drop (suc (length w)) out ≡ drop (suc (length w)) old
 
 pub backed-first : {n m : ℕ} {sets : List ℕ} {set : ℕ} {w old : List ℕ} → Letters m w → suc (length w) ≤ length old
     → ((j : ℕ) → j ≤ length w → getD old j 0 ≡ setOf n (reach (bare n m sets) (has set) (take j w))) → Backed n m sets set w old (length w) old
-backed-first {n} {m} {sets} {set} {w} {old} l h came = record {
+backed-first {n} {m} {sets} {set} {w} l h came = record {
   letters = l;
   room = h;
-  came = came;
   at = omega arith;
-  filled = filled-last n _ _ old (length w) (came (length w) (omega arith) ∙ setOf-cong n _ _ (λ x _. possible-last (bare n m sets) (has set) w x));
+  long = refl;
+  below = λ j x. came j (omega arith);
+  written = λ j x y.
+      let q : j ≡ length w = omega arith in
+      rw q (came (length w) (omega arith) ∙ setOf-cong n _ _ (λ x _. possible-last (bare n m sets) (has set) w x));
+  kept = refl;
 }
 
-module _ {n m : ℕ} {sets : List ℕ} {set : ℕ} {w old : List ℕ} {i : ℕ} {out : List ℕ} (o : Backed n m sets set w old i out) (p : 0 < i) where
-  here : getD out (i - 1) 0 ≡ setOf n (reach (bare n m sets) (has set) (take (i - 1) w))
-  here = o .filled .same (i - 1) (omega arith) ∙ o .came (i - 1) (omega arith)
+module _ {n m : ℕ} {sets : List ℕ} {set : ℕ} {w old : List ℕ} {i : ℕ} {out : List ℕ} (o : Backed n m sets set w old i out) where
+  module _ (p : 0 < i) where
+    here : getD out (i - 1) 0 ≡ setOf n (reach (bare n m sets) (has set) (take (i - 1) w))
+    here = o .below (i - 1) (omega arith)
 
-  next : getD out (i - 1 + 1) 0 ≡ setOf n (possible (bare n m sets) (has set) w (i - 1 + 1))
-  next = o .filled .sets (i - 1 + 1) (omega arith) (omega arith)
+    next : getD out (i - 1 + 1) 0 ≡ setOf n (possible (bare n m sets) (has set) w (i - 1 + 1))
+    next = o .written (i - 1 + 1) (omega arith) (omega arith)
 
-  pub here-lt : getD out (i - 1) 0 < 2 ^ n
-  here-lt = rw here (setOf-lt n _)
+    pub here-lt : getD out (i - 1) 0 < 2 ^ n
+    here-lt = rw here (setOf-lt n _)
 
-  pub next-lt : getD out (i - 1 + 1) 0 < 2 ^ n
-  next-lt = rw next (setOf-lt n _)
+    pub next-lt : getD out (i - 1 + 1) 0 < 2 ^ n
+    next-lt = rw next (setOf-lt n _)
 
-  pub letter-lt : getD w (i - 1) 0 < m
-  letter-lt = o .letters .below (i - 1) (omega arith)
+    pub letter-lt : getD w (i - 1) 0 < m
+    letter-lt = o .letters .below (i - 1) (omega arith)
 
-  pub backed-next : {v : ℕ}
-      → v ≡ setOf n (λ s. has (getD out (i - 1) 0) s && any n (λ t. has (getD out (i - 1 + 1) 0) t && has (getD sets (place m s (getD w (i - 1) 0)) 0) t))
-      → Backed n m sets set w old (i - 1) (L.set out (i - 1) v)
-  backed-next {v} e = record {
-    letters = o .letters;
-    room = o .room;
-    came = o .came;
-    at = omega arith;
-    filled = filled-front (o .filled) (o .room) v p (omega arith) (back-set n m sets (has set) w (i - 1) _ _ v (omega arith) letter-lt here next e);
+    pub backed-next : {v : ℕ}
+        → v ≡ setOf n (λ s. has (getD out (i - 1) 0) s && any n (λ t. has (getD out (i - 1 + 1) 0) t && has (getD sets (place m s (getD w (i - 1) 0)) 0) t))
+        → Backed n m sets set w old (i - 1) (L.set out (i - 1) v)
+    backed-next {v} e = record {
+      letters = o .letters;
+      room = o .room;
+      at = omega arith;
+      long = length-set out (i - 1) v ∙ o .long;
+      below = λ j x. getD-set-other out (i - 1) j v 0 (λ q. omega arith) ∙ o .below j (omega arith);
+      written = λ j x y. elim (ℕ-discrete j (i - 1)) [
+        | yes q ↦ rw (q, getD-set-same out (i - 1) v 0 (omega (arith, o .long, o .room))) (back-set n m sets (has set) w (i - 1) _ _ v (omega arith) letter-lt here next e)
+        | no q ↦ getD-set-other out (i - 1) j v 0 q ∙ o .written j (omega arith) y
+      ];
+      kept = drop-set-lt (suc (length w)) out (i - 1) v (omega arith) ∙ o .kept;
+    }
+
+  pub backed-all : i ≤ 0 → (starts : ℕ) → Written n w (possible (successors n m starts sets) (has set) w) old out
+  backed-all z starts = record {
+    sets = λ j h. o .written j (omega arith) h ∙ setOf-cong n _ _ (λ x _. sym (possible-bare n m starts sets (has set) w j x));
+    kept = o .kept;
   }

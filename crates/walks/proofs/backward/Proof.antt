@@ -1,11 +1,8 @@
 -- `backward` meets its contract. Between two turns the sets from place i on are the possible states, and those below are as they came.
 -- Assumes nothing.
 use Prim.Native.Nat.{_-_}
-use mathlib.Core.Path.{sym}
 use native.Mathlib.Omega.{arith}
-use Rattle.bitset.specs.Sets.{has}
-use Rattle.walks.proofs.Steps.{possible-bare}
-use Rattle.walks.proofs.Filling.{Backed, backed-first, backed-next, here-lt, next-lt, letter-lt, filled-all}
+use Rattle.walks.proofs.Filling.{Backed, backed-first, backed-next, here-lt, next-lt, letter-lt, backed-all}
 use Rattle.walks.proofs.backward.Statement.{statement}
 use Rattle.walks.proofs.backward.Tie as tie
 
@@ -63,12 +60,10 @@ loop-again : tie.Need-loop-again Inv-loop μ-loop
 loop-again c = let t = c .before .before .before .before in backed-next (t .before .loop .inv) (t .loop-test .taken) (c .back .ensures)
 
 same-length : tie.Need-same-length Inv-loop μ-loop
-same-length c = c .before .loop .inv .filled .long
+same-length c = c .before .loop .inv .long
 
 returns : tie.Need-returns Inv-loop μ-loop
-returns c starts =
-    let a = c .before .before .before .before .before .args in
-    filled-all (c .before .loop .inv .filled) (λ j x. sym (possible-bare (a .n) (a .m) starts (a .sets .now) (has (a .set)) (a .word .now) j x)) (omega arith) (omega arith)
+returns c starts = backed-all (c .before .loop .inv) (omega arith) starts
 
 pub backward-spec : {M : Type 1} → statement M
 backward-spec =
