@@ -14,11 +14,10 @@ use lib.ListN.{length, getD, set, length-set}
 use lib.Seq.{getD-set-same, getD-set-other}
 use borrow.Author.Tests.{eq-eqb, ne-eqb, eqb-true}
 use Rattle.bitset.specs.Sets.{any, has}
-use Rattle.bitset.proofs.Tests.{or-left}
 use Rattle.bitset.proofs.Bits.{has-or, has-empty}
 use Rattle.bitset.proofs.Members.{has-strike}
 use Rattle.bitset.proofs.Taking.{Left, least-in, least-below, taken}
-use Rattle.lookahead.specs.Rows.{pair, Put, Paired, Grown}
+use Rattle.lookahead.specs.Rows.{pair, Put, Paired}
 
 -- one row is joined with the seconds
 pub pair-row : (rows : List ℕ) (z seconds s t : ℕ) → z < length rows
@@ -70,12 +69,7 @@ module _ {old : List ℕ} {F G : ℕ → ℕ} where
   unfolding any
   paired-next {mid} {new} {i} p k = rw add-one (record { long = p .long ∙ k .long; is = λ s t. rw (p .is s t, k .is s t, or-assoc) })
 
--- no pair is lost
-pub grown-self : (rows : List ℕ) → Grown rows rows
-grown-self rows = record { long = refl; keeps = λ s t e. e }
-
-pub grown-on : {a b c : List ℕ} → Grown a b → Grown b c → Grown a c
-grown-on f g = record { long = g .long ∙ f .long; keeps = λ s t e. g .keeps s t (f .keeps s t e) }
-
-pub paired-grown : {old new : List ℕ} {F G : ℕ → ℕ} {k : ℕ} → Paired old new F G k → Grown old new
-paired-grown {old} p = record { long = p .long; keeps = λ s t e. p .is s t ∙ or-left (pair old s t) _ e }
+  -- with no firsts there is nothing to pair up
+  pub paired-none : {new : List ℕ} {i : ℕ} → F i ≡ 0 → Paired old new F G i → Paired old new F G (i + 1)
+  unfolding any
+  paired-none e k = rw add-one (record { long = k .long; is = λ s t. rw (k .is s t, e, has-empty, or-false) })

@@ -2,20 +2,18 @@
 -- Assumes nothing.
 use mathlib.Core.Bool.{Bool, true, false, not, xor, _&&_, false≢true}
 use mathlib.Core.Path.{_≡_, refl, sym, ap, _∙_}
-use mathlib.Core.Logic.{inl, inr}
+use mathlib.Core.Logic.{_⊎_, inl, inr}
 use mathlib.Core.List.{List}
-use Prim.Native.Nat.{ℕ, suc, _+_, _*_, _^_, _<_}
+use Prim.Native.Nat.{ℕ, suc, _+_, _*_, _^_, _≤_, _<_}
 use native.Mathlib.Decide.{decLt}
-use native.Mathlib.Numerals.{add-one}
 use native.Mathlib.Omega.{arith}
-use lib.Dec.{ltb}
+use lib.Dec.{ltb, leb}
 use lib.ListN.{replicate, getD-replicate}
-use lib.Pow.{ones-lt}
-use borrow.Author.Tests.{lt-ltb}
+use borrow.Author.Tests.{lt-ltb, le-leb, lt-leb, leb-true}
 use Rattle.bitset.specs.Sets.{any, has, setOf}
 use Rattle.bitset.proofs.Tests.{and-in, and-out, not-so, decided, same-test}
 use Rattle.bitset.proofs.Below.{any-in, any-out, any-none, any-cong, with-any}
-use Rattle.bitset.proofs.Bits.{has-empty, has-setOf, some-member, mask-setOf}
+use Rattle.bitset.proofs.Bits.{has-empty, has-setOf, some-member, fits}
 use Rattle.semiautomata.specs.Semiautomaton.{Semiautomaton, Within}
 use Rattle.semiautomata.specs.Predictability.{SomeClash, Predictable}
 use Rattle.semiautomata.specs.Levels.{live, Repeats}
@@ -24,9 +22,9 @@ use Rattle.semiautomata.proofs.Shares.{share-swap, share-shorter, rivals-lt, cl
 use Rattle.semiautomata.proofs.Levels.{with-and, live-in, live-out, live-fixed}
 use Rattle.semiautomata.proofs.Lassos.{share-ever, live-ever}
 use Rattle.semiautomata.proofs.Successors.{edge-out, fit-within}
-use Rattle.lookahead.specs.Rows.{after, pair, Fits, Turned}
+use Rattle.lookahead.specs.Rows.{after, pair, Fits, Turned, Without}
 use Rattle.lookahead.specs.Rivals.{Rivalry, Common, Apart}
-use Rattle.lookahead.specs.Rounds.{leads, dying, Struck, Lasting}
+use Rattle.lookahead.specs.Rounds.{leads, dying, falls, Struck, Waking, Lasting}
 
 -- the rows hold the pairs that are live for j letters
 pub record Level (S : Semiautomaton) (j : ℕ) (rows : List ℕ) : Type 0 where
@@ -38,10 +36,12 @@ pub record Covers (S : Semiautomaton) (j : ℕ) (look : List ℕ) : Type 0 where
 
 -- what holds before each round
 pub record At (S : Semiautomaton) (rows look : List ℕ) (j : ℕ) : Type 0 where
-  pub fits : Fits (S .n) rows
   pub level : Level S j rows
   pub work : Covers S j look
   pub clashed : (i : ℕ) → i < j → SomeClash S i
+
+pub clashed-next : {S : Semiautomaton} {j : ℕ} → ((i : ℕ) → i < j → SomeClash S i) → SomeClash S j → (i : ℕ) → i < suc j → SomeClash S i
+clashed-next {S} {j} f c i h = elim (decLt i j) [ yes l ↦ f i l | no l ↦ let e : i ≡ j = omega arith in rw e c ]
 
 any-and : (n : ℕ) (b : Bool) (p : ℕ → Bool) → (b && any n p) ≡ any n (λ u. b && p u)
 any-and n true p = refl
@@ -96,6 +96,9 @@ module _ (n m starts : ℕ) (sets : List ℕ) (F : Fit n m sets) (H : starts < 2
   live-swap : (j s t : ℕ) → live S j s t ≡ true → live S j t s ≡ true
   live-swap j s t e = live-in S W (share-swap (live-out S j s t e))
 
+  live-sym : (j s t : ℕ) → live S j s t ≡ live S j t s
+  live-sym j s t = same-test _ _ (live-swap j s t) (live-swap j t s)
+
   -- the search finds what is live for one letter more
   leads-live : {j : ℕ} {rows : List ℕ} → Level S j rows → (s t : ℕ) → s < n → t < n → leads n m sets rows s t ≡ live S (suc j) s t
   unfolding leads live
@@ -105,28 +108,47 @@ module _ (n m starts : ℕ) (sets : List ℕ) (F : Fit n m sets) (H : starts < 2
 
   -- ONE ROUND
 
-  module _ {j : ℕ} {rows look next woken back : List ℕ} {gone : ℕ} (L : Level S j rows) (C : Covers S j look) (k : Struck n m sets back rows look next woken gone n) where
+  module _ {j : ℕ} {rows look struck : List ℕ} {gone : ℕ} (L : Level S j rows) (C : Covers S j look) (k : Struck n m sets rows look struck gone n) where
     dying-is : (s t : ℕ) → s < n → t < n → dying n m sets rows look s t ≡ (live S j s t && not (live S (suc j) s t))
     dying-is s t hs ht = rw (L .is s t hs ht, leads-live L s t hs ht) (struck-is (live S j s t) (live S (suc j) s t) (pair look s t) (C .covers s t hs ht))
 
-    dies : (s t : ℕ) → s < n → t < n → live S j s t ≡ true → live S (suc j) s t ≡ false → dying n m sets rows look s t ≡ true
-    dies s t hs ht x y = dying-is s t hs ht ∙ rw (x, y)
+    -- a pair that ends falls, in one order or the other
+    fallen : (s t : ℕ) → s < n → t < n → (live S j s t && not (live S (suc j) s t)) ≡ true
+        → (falls n m sets rows look s t ≡ true) ⊎ (falls n m sets rows look t s ≡ true)
+    fallen s t hs ht e = elim (decLt s t) [
+      | yes h ↦ inr (and-in _ _ (le-leb s t (omega arith)) (dying-is t s ht hs ∙ rw (live-sym j t s, live-sym (suc j) t s) e))
+      | no h ↦ inl (and-in _ _ (le-leb t s (omega arith)) (dying-is s t hs ht ∙ e))
+    ]
 
-    pub level-next : Level S (suc j) next
-    level-next = record {
-      is = λ s t hs ht. k .left s t hs ht ∙ rw (dying-is s t hs ht, L .is s t hs ht) (left-is (live S j s t) (live S (suc j) s t) (live-less j s t));
+    ends : (s t : ℕ) → s < n → t < n → falls n m sets rows look s t ≡ true → (live S j s t && not (live S (suc j) s t)) ≡ true
+    ends s t hs ht e = sym (dying-is s t hs ht) ∙ and-out (leb t s) _ e .1
+
+    struck-ends : (s t : ℕ) → s < n → t < n → pair struck s t ≡ (live S j s t && not (live S (suc j) s t))
+    struck-ends s t hs ht = same-test _ _
+        (λ e. elim (k .only s t e) [ inl (h, f) ↦ ends s t hs ht f | inr (h, f) ↦ rw (live-sym j s t, live-sym (suc j) s t) (ends t s ht hs f) ])
+        (λ e. elim (fallen s t hs ht e) [ inl f ↦ k .both s t hs f .0 | inr f ↦ k .both t s ht f .1 ])
+
+    pub struck-fits : Fits n struck
+    struck-fits s h = fits n _ λ t g. not-so _ λ e. elim (k .only s t e) [
+      | inl (_, f) ↦ let l : t ≤ s = leb-true t s (and-out (leb t s) _ f .0) in absurd (omega arith)
+      | inr (l, f) ↦ absurd (omega arith)
+    ]
+
+    pub level-next : {next : List ℕ} → Without rows struck next n → Level S (suc j) next
+    level-next w = record {
+      is = λ s t hs ht. w .is s t hs ∙ rw (struck-ends s t hs ht, L .is s t hs ht) (left-is (live S j s t) (live S (suc j) s t) (live-less j s t));
     }
 
-    pub covers-next : Turned n m sets back → Covers S (suc j) woken
-    covers-next T = record {
+    pub covers-next : {back woken : List ℕ} → Turned n m sets back → Waking m back struck woken n → Covers S (suc j) woken
+    covers-next {back} T w = record {
       covers = λ s t hs ht x y.
           let o = live-back j s t x in
           let hr = W .to-lt s (o .a) (o .r) (o .first) in
           let hu = W .to-lt t (o .a) (o .u) (o .second) in
-          let ends = not-so _ λ e. false≢true (sym y ∙ live-step (record { a = o .a; r = o .r; u = o .u; first = o .first; second = o .second; on = e })) in
+          let dead = not-so _ λ e. false≢true (sym y ∙ live-step (record { a = o .a; r = o .r; u = o .u; first = o .first; second = o .second; on = e })) in
           let comes : (q x : ℕ) → x < n → S .edge q (o .a) x ≡ true → has (after m back x (o .a)) q ≡ true = λ q x hx e.
           let (hq, ha, f) = edge-out n m starts sets q (o .a) x e in rw (T .is x (o .a) hx ha, has-setOf, lt-ltb q n hq) f in
-          k .wakes (o .r) (o .u) hr hu (dies (o .r) (o .u) hr hu (o .on) ends) .wakes (o .a) s t (W .letter-lt s (o .a) (o .r) (o .first))
+          w .wakes (o .r) (o .u) (o .a) s t hr (struck-ends (o .r) (o .u) hr hu ∙ rw (o .on, dead)) (W .letter-lt s (o .a) (o .r) (o .first))
           (comes s (o .r) hr (o .first)) (comes t (o .u) hu (o .second));
     }
 
@@ -134,17 +156,21 @@ module _ (n m starts : ℕ) (sets : List ℕ) (F : Fit n m sets) (H : starts < 2
     pub level-repeats : gone ≡ 0 → Repeats S j
     level-repeats z s t hs ht = same-test _ _ (live-less j s t) λ x. elim (decided (live S (suc j) s t)) [
       | inl y ↦ y
-      | inr y ↦ absurd (false≢true (sym (rw z (has-empty t)) ∙ k .some t ht ∙ any-in n _ s hs (dies s t hs ht x y)))
+      | inr y ↦ elim (fallen s t hs ht (rw (x, y))) [ inl f ↦ absurd (none s t hs f) | inr f ↦ absurd (none t s ht f) ]
     ]
+      where
+        none : (s t : ℕ) → s < n → ¬ (falls n m sets rows look s t ≡ true)
+        none s t hs f = false≢true (sym (rw z (has-empty t)) ∙ k .some t ∙ any-in n _ s hs f)
 
     -- something is struck: it is one of the first n × n rounds
     pub round-early : ¬ (gone ≡ 0) → j < n * n
     round-early ne = elim (decLt j (n * n)) [
       | yes h ↦ h
       | no h ↦
-          let (t, ht, e) = any-out n _ (some-member n gone (omega (arith, ne)) (k .within)) in
-          let (s, hs, d) = any-out n _ (sym (k .some t ht) ∙ e) in
-          let (x, y) = and-out (live S j s t) _ (sym (dying-is s t hs ht) ∙ d) in
+          let lower = fits n gone λ t g. k .some t ∙ any-none n _ (λ s hs. rw (lt-leb t s (omega arith))) in
+          let (t, ht, e) = any-out n _ (some-member n gone (omega (arith, ne)) lower) in
+          let (s, hs, f) = any-out n _ (sym (k .some t) ∙ e) in
+          let (x, y) = and-out (live S j s t) _ (ends s t hs ht f) in
           let long : live S (n * n) s t ≡ true = live-in S W (share-shorter (omega arith) (live-out S j s t x)) in
           absurd (false≢true (rw (live-ever S W s t hs ht long (suc j)) at y))
     ]
@@ -197,7 +223,6 @@ module _ (n m starts : ℕ) (sets : List ℕ) (F : Fit n m sets) (H : starts < 2
   pub at-first : (all : ℕ) → all ≡ setOf 64 (λ t. ltb t n) → At S (replicate 64 all) (replicate 64 all) 0
   unfolding live
   at-first all e = record {
-    fits = λ s h. rw (getD-replicate 64 s all 0 (omega (arith, F .states)), e, ← mask-setOf 64 n (F .states)) (ones-lt n);
     level = record { is = every };
     work = record { covers = λ s t hs ht _ _. every s t hs ht };
     clashed = λ i h. absurd (omega arith);
@@ -205,12 +230,3 @@ module _ (n m starts : ℕ) (sets : List ℕ) (F : Fit n m sets) (H : starts < 2
     where
       every : (s t : ℕ) → s < n → t < n → pair (replicate 64 all) s t ≡ true
       every s t hs ht = rw (getD-replicate 64 s all 0 (omega (arith, F .states)), e, has-setOf, lt-ltb t n ht, lt-ltb t 64 (omega (arith, F .states)))
-
-  pub at-next : {rows look next woken back : List ℕ} {gone j : ℕ} → At S rows look j → SomeClash S j → Struck n m sets back rows look next woken gone n → Turned n m sets back
-      → At S next woken (j + 1)
-  at-next {j = j} a c k T = rw add-one (record {
-    fits = k .fits;
-    level = level-next (a .level) (a .work) k;
-    work = covers-next (a .level) (a .work) k T;
-    clashed = λ i h. elim (decLt i j) [ yes l ↦ a .clashed i l | no l ↦ let e : i ≡ j = omega arith in rw e c ];
-  })

@@ -1,112 +1,126 @@
--- Striking the pairs that are led on to no live pair, state by state and row by row, and waking the pairs that lead to them.
+-- Striking the pairs that are led on to no live pair, row by row, and waking the pairs that lead to them.
 -- Assumes nothing.
-use mathlib.Core.Bool.{true, false, not, false≢true, xor, _&&_}
-use mathlib.Core.Path.{_≡_, sym, _∙_}
+use mathlib.Core.Bool.{true, false, not, xor, _&&_, false≢true, and-true, and-false}
+use mathlib.Core.Path.{_≡_, refl, sym, _∙_}
 use mathlib.Core.Logic.{inl, inr}
 use mathlib.Core.List.{List}
-use Prim.Native.Nat.{ℕ, _+_, _*_, _%_, _^_, _<_, _-_}
-use native.Mathlib.Nat.{lt-of-lt-of-le}
+use Prim.Native.Nat.{ℕ, _+_, _*_, _%_, _^_, _≤_, _<_}
+use native.Mathlib.Decide.{decLt}
 use native.Mathlib.Numerals.{add-one}
 use native.Mathlib.Omega.{arith}
-use lib.Bits.{bitAnd, bitOr, bitXor, or-lt, xor-lt}
-use lib.Count.{trailingZeros}
-use lib.Dec.{eqb}
-use lib.ListN.{length, getD, set}
-use lib.Pow.{pow-pos}
+use lib.Bits.{bitAnd, bitOr, bitXor}
+use lib.Dec.{ltb, eqb}
+use lib.ListN.{length, getD, replicate, set}
 use lib.Seq.{getD-set-same, getD-set-other}
 use borrow.Author.Count.{below-more}
-use borrow.Author.Tests.{eqb-true, lt-ltb}
+use borrow.Author.Tests.{eqb-true, eq-eqb, lt-ltb, le-ltb, le-leb, lt-leb}
 use Rattle.bitset.specs.Sets.{any, has, setOf}
-use Rattle.bitset.proofs.Tests.{and-in, or-right, or-cases}
+use Rattle.bitset.proofs.Tests.{and-in, and-out, or-left, or-right, or-cases}
 use Rattle.bitset.proofs.Below.{any-in}
-use Rattle.bitset.proofs.Bits.{has-or, has-and, has-xor, has-empty, has-insert, has-setOf, setOf-lt}
-use Rattle.bitset.proofs.Taking.{Left, left-next, least-below, Picked, picked-first, picked-with, picked-without}
-use Rattle.lookahead.specs.Rows.{after, pair, Paired, Grown}
-use Rattle.lookahead.specs.Rounds.{leads, Woken, dying, Struck}
-use Rattle.lookahead.proofs.Pairing.{grown-self, grown-on, paired-grown}
+use Rattle.bitset.proofs.Bits.{has-or, has-and, has-xor, has-empty, has-shl, has-setOf, has-lt, fits}
+use Rattle.semiautomata.specs.Walks.{step}
+use Rattle.semiautomata.specs.Successors.{successors, Fit}
+use Rattle.semiautomata.proofs.Successors.{edge-is}
+use Rattle.lookahead.specs.Rows.{after, pair, Put, Paired, Without, Fits}
+use Rattle.lookahead.specs.Rounds.{leads, falls, Struck, Waking}
+use Rattle.lookahead.proofs.Places.{place-fits, zeros-at}
 
-pub woken-here : {m : ℕ} {back old new : List ℕ} {s t : ℕ} → Paired old new (after m back s) (after m back t) m → Woken m back new s t
-woken-here {m} {old = old} p = record { wakes = λ a x y h d e. p .is x y ∙ or-right (pair old x y) _ (any-in m _ a h (and-in _ _ d e)) }
+-- WHAT A ROUND STRIKES
 
-pub woken-on : {m : ℕ} {back a b : List ℕ} {s t : ℕ} → Grown a b → Woken m back a s t → Woken m back b s t
-woken-on g w = record { wakes = λ a x y h d e. g .keeps x y (w .wakes a x y h d e) }
+-- the states no higher than s are below n
+pub work-fits : (n s x : ℕ) → s < n → bitAnd x (setOf 64 (λ t. ltb t (s + 1))) < 2 ^ n
+work-fits n s x h = fits n _ λ t g. rw (has-and, has-setOf, le-ltb t (s + 1) (omega arith), and-false, and-false)
 
--- ONE ROW: the states of the work that are taken
-
-pub record Striking (n m : ℕ) (sets back live : List ℕ) (s work rest out : ℕ) (old look : List ℕ) : Type 0 where
-  pub left : Left n work rest
-  pub picked : Picked work rest (λ t. not (leads n m sets live s t)) out
-  pub grown : Grown old look
-  pub wakes : (t : ℕ) → has out t ≡ true → Woken m back look s t
-
-module _ {n m : ℕ} {sets back live : List ℕ} {s work : ℕ} {old : List ℕ} where
-  pub striking-first : Left n work work → Striking n m sets back live s work work 0 old old
-  striking-first l = record {
-    left = l;
-    picked = picked-first work _;
-    grown = grown-self old;
-    wakes = λ t e. absurd (false≢true (sym (has-empty t) ∙ e));
-  }
-
-  module _ {rest out : ℕ} {look : List ℕ} (p : 0 < rest) (k : Striking n m sets back live s work rest out old look) where
-    pub striking-with : {new : List ℕ} → not (leads n m sets live s (trailingZeros 64 rest)) ≡ true
-        → Paired look new (after m back s) (after m back (trailingZeros 64 rest)) m
-        → Striking n m sets back live s work (bitAnd rest (rest - 1)) (bitOr out ((1 * 2 ^ trailingZeros 64 rest) % 2 ^ 64)) old new
-    striking-with {new} e q = record {
-      left = left-next (k .left) p;
-      picked = picked-with (k .left) p e (k .picked);
-      grown = grown-on (k .grown) (paired-grown q);
-      wakes = λ t d.
-          let z = trailingZeros 64 rest in
-          elim (or-cases (has out t) (eqb z t) (sym (has-insert 64 out z t (lt-of-lt-of-le (least-below (k .left) p) (k .left .width))) ∙ d)) [
-            | inl f ↦ woken-on (paired-grown q) (k .wakes t f)
-            | inr f ↦ rw (← eqb-true z t f) (woken-here q)
-          ];
-    }
-
-    pub striking-without : not (leads n m sets live s (trailingZeros 64 rest)) ≡ false → Striking n m sets back live s work (bitAnd rest (rest - 1)) out old look
-    striking-without e = record { left = left-next (k .left) p; picked = picked-without (k .left) p e (k .picked); grown = k .grown; wakes = k .wakes }
-
--- ROW BY ROW
-
-module _ {n m : ℕ} {sets back live look : List ℕ} where
-  pub struck-first : {next woken : List ℕ} → Struck n m sets back live look next woken 0 0
+module _ (n m : ℕ) (sets live look : List ℕ) where
+  pub struck-first : Struck n m sets live look (replicate 64 0) 0 0
   unfolding any
   struck-first = record {
-    fits = λ s h. absurd (omega arith);
-    left = λ s t h. absurd (omega arith);
-    wakes = λ s t h. absurd (omega arith);
-    within = pow-pos n;
-    some = λ t h. has-empty t;
+    both = λ s t h. absurd (omega arith);
+    only = λ s t e. absurd (false≢true (sym (rw (zeros-at 64 s) (has-empty t)) ∙ e));
+    some = λ t. has-empty t;
   }
 
-  module _ {next woken : List ℕ} {gone s : ℕ} (k : Struck n m sets back live look next woken gone s) where
-    pub struck-next : {new : List ℕ} {out : ℕ} → s < length next → getD live s 0 < 2 ^ n
-        → out ≡ setOf n (λ t. has (bitAnd (getD look s 0) (getD live s 0)) t && not (leads n m sets live s t))
-        → Grown woken new → ((t : ℕ) → has out t ≡ true → Woken m back new s t)
-        → Struck n m sets back live look (set next s (bitXor (getD live s 0) out)) new (bitOr gone out) (s + 1)
-    unfolding any
-    struck-next {new} {out} room fit e g w = record {
-      fits = below-more (λ (x : ℕ). getD (set next s v) x 0 < 2 ^ n) s (λ x h. rw (other x h) (k .fits x h)) (rw here (xor-lt n _ out fit out-fits));
-      left = λ x t h. below-more (λ (x : ℕ). t < n → pair (set next s v) x t ≡ xor (pair live x t) (dying n m sets live look x t)) s
-          (λ x h b. rw (other x h) (k .left x t h b)) (λ b. rw (here, has-xor, is t b)) x h;
-      wakes = λ x t h. below-more (λ (x : ℕ). t < n → dying n m sets live look x t ≡ true → Woken m back new x t) s
-          (λ x h b d. woken-on g (k .wakes x t h b d)) (λ b d. w t (is t b ∙ d)) x h;
-      within = or-lt n gone out (k .within) out-fits;
-      some = λ t b. rw (add-one, has-or, k .some t b, is t b);
-    }
-      where
-        v : ℕ
-        v = bitXor (getD live s 0) out
+  -- the states that are tested with s are those no higher
+  falls-is : (s out : ℕ) → s < n → n ≤ 64 → out ≡ setOf n (λ t. has (bitAnd (bitAnd (getD look s 0) (getD live s 0)) (setOf 64 (λ t. ltb t (s + 1)))) t && not (leads n m sets live s t))
+      → (t : ℕ) → has out t ≡ falls n m sets live look s t
+  falls-is s out h w e t = elim (decLt s t) [
+    | yes g ↦ rw (e, has-setOf, has-and, has-setOf, le-ltb t (s + 1) (omega arith), lt-leb t s g, and-false, and-false, and-false)
+    | no g ↦ rw (e, has-setOf, has-and, has-setOf, lt-ltb t n (omega arith), lt-ltb t 64 (omega arith), lt-ltb t (s + 1) (omega arith), le-leb t s (omega arith), and-true, has-and)
+  ]
 
-        out-fits : out < 2 ^ n
-        out-fits = rw e (setOf-lt n _)
+  pub struck-next : {old mid new : List ℕ} {gone s out : ℕ} → s < n → n ≤ 64
+      → out ≡ setOf n (λ t. has (bitAnd (bitAnd (getD look s 0) (getD live s 0)) (setOf 64 (λ t. ltb t (s + 1)))) t && not (leads n m sets live s t))
+      → Put out ((1 * 2 ^ s) % 2 ^ 64) old mid → Put ((1 * 2 ^ s) % 2 ^ 64) out mid new
+      → Struck n m sets live look old gone s → Struck n m sets live look new (bitOr gone out) (s + 1)
+  unfolding any
+  struck-next {old} {mid} {new} {gone} {s} {out} h w e p q k = record {
+    both = λ x t. below-more (λ (x : ℕ). falls n m sets live look x t ≡ true → (pair new x t ≡ true) × (pair new t x ≡ true)) s
+        (λ x g f. let (a, b) = k .both x t g f in (kept x t a, kept t x b))
+        (λ f. let o = is t ∙ f in (q .is s t ∙ or-right (pair mid s t) _ (and-in _ _ here o), q .is t s ∙ or-left _ _ (p .is t s ∙ or-right (pair old t s) _ (and-in _ _ o here)))) x;
+    only = λ x t f. elim (or-cases (pair mid x t) _ (sym (q .is x t) ∙ f)) [
+      | inl f ↦ elim (or-cases (pair old x t) _ (sym (p .is x t) ∙ f)) [
+        | inl f ↦ elim (k .only x t f) [ inl (g, d) ↦ inl (omega arith, d) | inr (g, d) ↦ inr (omega arith, d) ]
+        | inr f ↦ let (o, b) = and-out (has out x) _ f in inr (at t b x o)
+      ]
+      | inr f ↦ let (b, o) = and-out _ (has out t) f in inl (at x b t o)
+    ];
+    some = λ t. rw (add-one, has-or, k .some t, is t);
+  }
+    where
+      is : (t : ℕ) → has out t ≡ falls n m sets live look s t
+      is = falls-is s out h w e
 
-        is : (t : ℕ) → t < n → has out t ≡ dying n m sets live look s t
-        is t b = rw (e, has-setOf, lt-ltb t n b, has-and)
+      bit : (t : ℕ) → has ((1 * 2 ^ s) % 2 ^ 64) t ≡ eqb s t
+      bit t = has-shl 64 s t (omega arith)
 
-        here : getD (set next s v) s 0 ≡ v
-        here = getD-set-same next s v 0 room
+      here : has ((1 * 2 ^ s) % 2 ^ 64) s ≡ true
+      here = bit s ∙ eq-eqb s s refl
 
-        other : (x : ℕ) → x < s → getD (set next s v) x 0 ≡ getD next x 0
-        other x h = getD-set-other next s x v 0 (omega arith)
+      kept : (x t : ℕ) → pair old x t ≡ true → pair new x t ≡ true
+      kept x t f = q .is x t ∙ or-left _ _ (p .is x t ∙ or-left _ _ f)
+
+      at : (x : ℕ) → has ((1 * 2 ^ s) % 2 ^ 64) x ≡ true → (t : ℕ) → has out t ≡ true → (x < s + 1) × (falls n m sets live look x t ≡ true)
+      at x b t o = let z = eqb-true s x (sym (bit x) ∙ b) in (omega arith, rw (← z) (sym (is t) ∙ o))
+
+-- the struck pairs are taken out
+pub without-first : {old struck new : List ℕ} → Without old struck new 0
+without-first = record { is = λ s t h. absurd (omega arith) }
+
+pub without-next : {old struck new : List ℕ} {s : ℕ} → s < length new → Without old struck new s
+    → Without old struck (set new s (bitXor (getD old s 0) (getD struck s 0))) (s + 1)
+without-next {old} {struck} {new} {s} room k = record {
+  is = λ x t. below-more (λ (x : ℕ). pair (set new s v) x t ≡ xor (pair old x t) (pair struck x t)) s
+      (λ x h. rw (getD-set-other new s x v 0 (omega arith)) (k .is x t h))
+      (rw (getD-set-same new s v 0 room) (has-xor _ _ t)) x;
+}
+  where
+    v : ℕ
+    v = bitXor (getD old s 0) (getD struck s 0)
+
+-- WHAT IT WAKES
+
+module _ {m : ℕ} {back struck : List ℕ} where
+  pub waking-first : {look : List ℕ} → Waking m back struck look 0
+  waking-first = record { wakes = λ s t a x y h. absurd (omega arith) }
+
+  -- a row of which nothing is struck
+  pub waking-none : {look : List ℕ} {s : ℕ} → getD struck s 0 ≡ 0 → Waking m back struck look s → Waking m back struck look (s + 1)
+  waking-none {look} {s} e k = record {
+    wakes = λ z t a x y. below-more (λ (z : ℕ). pair struck z t ≡ true → a < m → has (after m back z a) x ≡ true → has (after m back t a) y ≡ true → pair look x y ≡ true) s
+        (λ z h. k .wakes z t a x y h)
+        (λ f. absurd (false≢true (sym (rw e (has-empty t)) ∙ f))) z;
+  }
+
+  pub waking-next : {n : ℕ} {look new : List ℕ} {s : ℕ} → Fit n m back → Fits n struck → s < n
+      → Paired look new (after m back s) (λ a. setOf n (step (successors n m 0 back) (has (getD struck s 0)) a)) m
+      → Waking m back struck look s → Waking m back struck new (s + 1)
+  unfolding step
+  waking-next {n} {look} {new} {s} fit below h p k = record {
+    wakes = λ z t a x y. below-more (λ (z : ℕ). pair struck z t ≡ true → a < m → has (after m back z a) x ≡ true → has (after m back t a) y ≡ true → pair new x y ≡ true) s
+        (λ z g f b d e. p .is x y ∙ or-left _ _ (k .wakes z t a x y g f b d e))
+        (λ f b d e.
+        let ht = has-lt n (getD struck s 0) t (below s h) f in
+        let hy = has-lt n (after m back t a) y (place-fits fit t a ht b) e in
+        let joined : has (setOf n (step (successors n m 0 back) (has (getD struck s 0)) a)) y ≡ true = rw (has-setOf, lt-ltb y n hy) (any-in n _ t ht (and-in _ _ f (edge-is n m 0 back t a y ht b ∙ e))) in
+        p .is x y ∙ or-right (pair look x y) _ (any-in m _ a b (and-in _ _ d joined))) z;
+  }

@@ -3,7 +3,7 @@
 use mathlib.Core.Bool.{Bool, true, _&&_}
 use mathlib.Core.Path.{_≡_, refl, sym, _∙_}
 use mathlib.Core.List.{List}
-use Prim.Native.Nat.{ℕ, _+_, _*_, _%_, _^_, _≤_, _<_}
+use Prim.Native.Nat.{ℕ, _+_, _*_, _/_, _%_, _^_, _≤_, _<_}
 use native.Mathlib.Omega.{arith}
 use lib.Dec.{ltb}
 use lib.ListN.{length, getD, set, replicate, length-set}
@@ -13,10 +13,10 @@ use borrow.Author.Tests.{ltb-true, lt-ltb, eqb-true, eq-eqb}
 use Rattle.bitset.specs.Sets.{any, has, setOf}
 use Rattle.bitset.proofs.Tests.{and-in, and-out, same-test}
 use Rattle.bitset.proofs.Below.{any-in, any-out}
-use Rattle.bitset.proofs.Bits.{has-empty, has-setOf, has-shl, same-members}
-use Rattle.semiautomata.specs.Successors.{place}
+use Rattle.bitset.proofs.Bits.{has-empty, has-setOf, has-shl, same-members, setOf-lt}
+use Rattle.semiautomata.specs.Successors.{place, Fit}
 use Rattle.lookahead.specs.Rows.{after, Paired, Sources, Laid, Turned}
-use Rattle.lookahead.proofs.Places.{place-state, place-letter, zeros-at}
+use Rattle.lookahead.proofs.Places.{place-state, place-letter, zeros-at, size-le, place-of, state-lt, letter-lt}
 
 -- the only state whose bit is t is t itself
 any-bit : (n t : ℕ) (p : ℕ → Bool) → n ≤ 64 → any n (λ s. p s && has ((1 * 2 ^ s) % 2 ^ 64) t) ≡ (ltb t n && p t)
@@ -88,3 +88,12 @@ turning-next {n} {m} {a} {sets} {rows} {old} {new} h s l k = record {
 
 pub turning-all : {n m : ℕ} {sets back : List ℕ} → Turning n m m sets back → Turned n m sets back
 turning-all k = record { is = λ r b g h. k .is r g b h }
+
+-- it is a table of successor sets too
+pub turned-fit : {n m : ℕ} {sets back : List ℕ} → Fit n m sets → length back ≡ 2048 → Turned n m sets back → Fit n m back
+turned-fit {n} {m} {back = back} f e t = record {
+  states = f .states;
+  letters = f .letters;
+  room = rw e (size-le (f .states) (f .letters));
+  below = λ i h. rw (← place-of n m i h) (rw (t .is (i / m) (i % m) (state-lt n m i h) (letter-lt n m i h)) (setOf-lt n _));
+}

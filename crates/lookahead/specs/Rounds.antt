@@ -1,11 +1,11 @@
 -- A round over the live pairs, and what the rounds come to.
 -- Assumes nothing.
-use Prim.Native.Nat.{ℕ, _^_, _<_}
-use mathlib.Core.Bool.{Bool, true, not, xor, _&&_}
-use mathlib.Core.Option.{some}
+use Prim.Native.Nat.{ℕ, _<_}
+use mathlib.Core.Bool.{Bool, true, not, _&&_}
+use mathlib.Core.Logic.{_⊎_}
 use mathlib.Core.Path.{_≡_}
 use mathlib.Core.List.{List}
-use lib.ListN.{getD}
+use lib.Dec.{leb}
 use Rattle.bitset.specs.Sets.{any, has}
 use Rattle.semiautomata.specs.Semiautomaton.{Semiautomaton}
 use Rattle.semiautomata.specs.Predictability.{Share}
@@ -26,21 +26,25 @@ pub record Leads (n m : ℕ) (sets rows : List ℕ) (s t a r u : ℕ) : Type 0 w
   pub second : successors n m 0 sets .edge t a u ≡ true
   pub lives : pair rows r u ≡ true
 
--- each pair that some letter leads to s and t is looked at
-pub record Woken (m : ℕ) (back look : List ℕ) (s t : ℕ) : Type 0 where
-  pub wakes : (a x y : ℕ) → a < m → has (after m back s a) x ≡ true → has (after m back t a) y ≡ true → pair look x y ≡ true
-
 -- a pair that is looked at and led on to no live pair
 abbrev pub dying : (n m : ℕ) (sets live look : List ℕ) (s t : ℕ) → Bool
 dying n m sets live look s t = pair look s t && pair live s t && not (leads n m sets live s t)
 
--- what a round over the rows below k gives: `gone` has the states that are struck from some row
-pub record Struck (n m : ℕ) (sets back live look next woken : List ℕ) (gone k : ℕ) : Type 0 where
-  pub fits : (s : ℕ) → s < k → getD next s 0 < 2 ^ n
-  pub left : (s t : ℕ) → s < k → t < n → pair next s t ≡ xor (pair live s t) (dying n m sets live look s t)
-  pub wakes : (s t : ℕ) → s < k → t < n → dying n m sets live look s t ≡ true → Woken m back woken s t
-  pub within : gone < 2 ^ n
-  pub some : (t : ℕ) → t < n → has gone t ≡ any k (λ s. dying n m sets live look s t)
+-- it is tested with its higher state first
+abbrev pub falls : (n m : ℕ) (sets live look : List ℕ) (s t : ℕ) → Bool
+falls n m sets live look s t = leb t s && dying n m sets live look s t
+
+-- what a round strikes by the tests of the rows below k: the pairs that fall, in both orders; `gone` has their lower states
+pub record Struck (n m : ℕ) (sets live look struck : List ℕ) (gone k : ℕ) : Type 0 where
+  pub both : (s t : ℕ) → s < k → falls n m sets live look s t ≡ true → (pair struck s t ≡ true) × (pair struck t s ≡ true)
+  pub only : (s t : ℕ) → pair struck s t ≡ true
+      → ((s < k) × (falls n m sets live look s t ≡ true)) ⊎ ((t < k) × (falls n m sets live look t s ≡ true))
+  pub some : (t : ℕ) → has gone t ≡ any k (λ s. falls n m sets live look s t)
+
+-- each pair that some letter leads to a struck pair of the rows below k is looked at
+pub record Waking (m : ℕ) (back struck look : List ℕ) (k : ℕ) : Type 0 where
+  pub wakes : (s t a x y : ℕ) → s < k → pair struck s t ≡ true → a < m → has (after m back s a) x ≡ true → has (after m back t a) y ≡ true
+      → pair look x y ≡ true
 
 -- WHAT THE ROUNDS COME TO
 

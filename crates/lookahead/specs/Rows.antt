@@ -1,7 +1,7 @@
 -- Rows of pairs of states: bit t of row s is the pair s and t.
 -- Assumes nothing.
 use Prim.Native.Nat.{ℕ, _^_, _<_}
-use mathlib.Core.Bool.{Bool, true, _&&_, _||_}
+use mathlib.Core.Bool.{Bool, xor, _&&_, _||_}
 use mathlib.Core.Path.{_≡_}
 use mathlib.Core.List.{List}
 use lib.ListN.{length, getD}
@@ -30,10 +30,9 @@ pub record Paired (old new : List ℕ) (F G : ℕ → ℕ) (k : ℕ) : Type 0 wh
   pub long : length new ≡ length old
   pub is : (s t : ℕ) → pair new s t ≡ (pair old s t || any k (λ i. has (F i) s && has (G i) t))
 
--- no pair is lost
-pub record Grown (old new : List ℕ) : Type 0 where
-  pub long : length new ≡ length old
-  pub keeps : (s t : ℕ) → pair old s t ≡ true → pair new s t ≡ true
+-- in the rows below k the struck pairs are taken out of the others, among which they are
+pub record Without (old struck new : List ℕ) (k : ℕ) : Type 0 where
+  pub is : (s t : ℕ) → s < k → pair new s t ≡ xor (pair old s t) (pair struck s t)
 
 -- in row r the states that letter a leads to r
 pub record Sources (n m a : ℕ) (sets rows : List ℕ) : Type 0 where

@@ -7,9 +7,10 @@ ghost use Prim.Native.Nat.{ℕ, _*_, _^_, _≤_, _<_};
 ghost use lib.ListN.{length};
 ghost use Rattle.bitset.specs.Sets.{has, setOf};
 ghost use Rattle.semiautomata.specs.Predictability.{Lookahead};
+ghost use Rattle.semiautomata.specs.Walks.{step};
 ghost use Rattle.semiautomata.specs.Successors.{successors, Fit};
-ghost use Rattle.lookahead.specs.Rows.{after, Paired, Grown, Fits};
-ghost use Rattle.lookahead.specs.Rounds.{leads, Leads, Woken, Struck, Lasting};
+ghost use Rattle.lookahead.specs.Rows.{after, Paired, Fits};
+ghost use Rattle.lookahead.specs.Rounds.{leads, Leads, Struck, Waking, Lasting};
 
 // A letter that leads two states on to a pair of the rows, and that pair.
 pub struct Step {
@@ -57,29 +58,10 @@ pub fn lead(sets: &[u64], n: usize, m: usize, rows: &[u64; 64], s: usize, t: usi
     step
 }
 
-// Every pair that some letter leads to s and t is looked at again.
-fn wake(back: &[u64; 2048], n: usize, m: usize, s: usize, t: usize, look: &mut [u64; 64])
-    requires { ⌜ (n ≤ 64) × (m ≤ 32) × (s < n) × (t < n) × (length (now look) ≡ 64) ⌝ }
-    ensures { λ z. ⌜ Paired (now (look .entry)) (now (look .exit)) (after m (now (back .entry)) s) (after m (now (back .entry)) t) m ⌝ }
-{
-    for a in 0..m {
-        rows::pair_up(look, back[s * m + a], back[t * m + a]);
-    }
-}
-
-// The states of `work` that share no longer word with s; the pairs that lead to them are woken.
-fn strike(
-    sets: &[u64],
-    back: &[u64; 2048],
-    n: usize,
-    m: usize,
-    live: &[u64; 64],
-    s: usize,
-    work: u64,
-    look: &mut [u64; 64],
-) -> u64
-    requires { ⌜ Fit n m (now sets) × (s < n) × (work < 2 ^ n) × (length (now look) ≡ 64) ⌝ }
-    ensures { λ r. ⌜ (r ≡ setOf n (λ t. has work t && not (leads n m (now (sets .entry)) (now (live .entry)) s t))) × Grown (now (look .entry)) (now (look .exit)) × ((t : ℕ) → has r t ≡ true → Woken m (now (back .entry)) (now (look .exit)) s t) ⌝ }
+// The states of `work` that share no longer word with s.
+fn strike_row(sets: &[u64], n: usize, m: usize, live: &[u64; 64], s: usize, work: u64) -> u64
+    requires { ⌜ Fit n m (now sets) × (s < n) × (work < 2 ^ n) ⌝ }
+    ensures { λ r. ⌜ r ≡ setOf n (λ t. has work t && not (leads n m (now (sets .entry)) (now (live .entry)) s t)) ⌝ }
 {
     let mut out: u64 = 0;
     let mut rest = work;
@@ -88,45 +70,62 @@ fn strike(
         let step = lead(sets, n, m, live, s, t);
         if !step.found {
             out |= 1 << t;
-            wake(back, n, m, s, t, look);
         }
         rest &= rest - 1;
     }
     out
 }
 
-// What a round leaves, what the next is to look at, and the states that were struck from some row.
-pub struct Level {
-    pub live: [u64; 64],
-    pub look: [u64; 64],
+// The pairs that a round strikes, and the lower states of them.
+pub struct Round {
+    pub struck: [u64; 64],
     pub gone: u64,
 }
 
-fn next_level(
-    sets: &[u64],
-    back: &[u64; 2048],
-    n: usize,
-    m: usize,
-    live: [u64; 64],
-    look: &[u64; 64],
-) -> Level
-    requires { ⌜ Fit n m (now sets) × Fits n live ⌝ }
-    ensures { λ r. ⌜ Struck n m (now (sets .entry)) (now (back .entry)) live (now (look .entry)) (r .live) (r .look) (r .gone) n ⌝ }
+// A pair is tested with the higher state first, and struck in both orders.
+fn strike(sets: &[u64], n: usize, m: usize, live: &[u64; 64], look: &[u64; 64]) -> Round
+    requires { ⌜ Fit n m (now sets) ⌝ }
+    ensures { λ r. ⌜ Struck n m (now (sets .entry)) (now (live .entry)) (now (look .entry)) (r .struck) (r .gone) n ⌝ }
 {
-    let mut next = [0u64; 64];
-    let mut woken = [0u64; 64];
+    let mut struck = [0u64; 64];
     let mut gone: u64 = 0;
     for s in 0..n {
-        let row = live[s];
-        let out = strike(sets, back, n, m, &live, s, look[s] & row, &mut woken);
-        next[s] = row ^ out;
+        let work = look[s] & live[s] & bitset::mask(s as u32 + 1);
+        let out = strike_row(sets, n, m, live, s, work);
+        rows::pair_up(&mut struck, out, 1 << s);
+        rows::pair_up(&mut struck, 1 << s, out);
         gone |= out;
     }
-    Level {
-        live: next,
-        look: woken,
-        gone,
+    Round { struck, gone }
+}
+
+// Every pair that some letter leads to s and a state of the set is looked at.
+fn wake_row(back: &[u64], n: usize, m: usize, s: usize, set: u64, look: &mut [u64; 64])
+    requires { ⌜ Fit n m (now back) × (s < n) × (set < 2 ^ n) × (length (now look) ≡ 64) ⌝ }
+    ensures { λ z. ⌜ Paired (now (look .entry)) (now (look .exit)) (after m (now (back .entry)) s) (λ a. setOf n (step (successors n m 0 (now (back .entry))) (has set) a)) m ⌝ }
+{
+    for a in 0..m {
+        let firsts = back[s * m + a];
+        if firsts != 0 {
+            let seconds = walks::gather(back, n, m, set, a);
+            rows::pair_up(look, firsts, seconds.set);
+        }
     }
+}
+
+// Every pair that some letter leads to a struck one is looked at; `back` is the table turned round.
+fn wake(back: &[u64], n: usize, m: usize, struck: &[u64; 64]) -> [u64; 64]
+    requires { ⌜ Fit n m (now back) × Fits n (now struck) ⌝ }
+    ensures { λ z. ⌜ Waking m (now (back .entry)) (now (struck .entry)) z n ⌝ }
+{
+    let mut look = [0u64; 64];
+    for s in 0..n {
+        let set = struck[s];
+        if set != 0 {
+            wake_row(back, n, m, s, set, &mut look);
+        }
+    }
+    look
 }
 
 // What the rounds come to: after `rounds` of them no critical set has two live states, or no round strikes one more pair, and low and
@@ -144,13 +143,35 @@ pub fn settle(sets: &[u64], n: usize, m: usize, starts: u64) -> Levels
     ensures { λ r. ⌜ (r .stable ≡ false → Lookahead (successors n m starts (now (sets .entry))) (r .rounds)) × (r .stable ≡ true → Lasting (successors n m starts (now (sets .entry))) (r .live) (r .low) (r .high)) ⌝ }
 {
     let rival = rows::rivals(sets, n, m, starts);
-    let back = rows::turn(sets, n, m);
     let all = bitset::mask(n as u32);
     let mut live = [all; 64];
     let mut look = [all; 64];
     let mut rounds: usize = 0;
+    let mut two = rows::common(n, &live, &rival);
+    if !two.found {
+        return Levels {
+            stable: false,
+            rounds,
+            live,
+            low: 0,
+            high: 0,
+        };
+    }
+    let back = rows::turn(sets, n, m);
     loop {
-        let two = rows::common(n, &live, &rival);
+        let last = strike(sets, n, m, &live, &look);
+        if last.gone == 0 {
+            return Levels {
+                stable: true,
+                rounds,
+                live,
+                low: two.low,
+                high: two.high,
+            };
+        }
+        live = rows::without(n, &live, &last.struck);
+        rounds += 1;
+        two = rows::common(n, &live, &rival);
         if !two.found {
             return Levels {
                 stable: false,
@@ -160,18 +181,6 @@ pub fn settle(sets: &[u64], n: usize, m: usize, starts: u64) -> Levels
                 high: 0,
             };
         }
-        let level = next_level(sets, &back, n, m, live, &look);
-        if level.gone == 0 {
-            return Levels {
-                stable: true,
-                rounds,
-                live,
-                low: two.low,
-                high: two.high,
-            };
-        }
-        live = level.live;
-        look = level.look;
-        rounds += 1;
+        look = wake(&back, n, m, &last.struck);
     }
 }

@@ -4,7 +4,7 @@ ghost use mathlib.Core.Path.{_≡_};
 ghost use Prim.Native.Nat.{_*_, _≤_, _<_};
 ghost use lib.ListN.{length};
 ghost use Rattle.semiautomata.specs.Successors.{successors, Fit};
-ghost use Rattle.lookahead.specs.Rows.{Put, Sources, Laid, Turned};
+ghost use Rattle.lookahead.specs.Rows.{Put, Without, Sources, Laid, Turned};
 ghost use Rattle.lookahead.specs.Rivals.{Rivalry, Common, Apart};
 
 // Each state of `firsts` is paired with each of `seconds`.
@@ -67,6 +67,18 @@ pub fn rivals(sets: &[u64], n: usize, m: usize, starts: u64) -> [u64; 64]
         pair_up(&mut rows, set, set);
     }
     rows
+}
+
+// The pairs of the rows but for the struck ones, which are among them.
+pub fn without(n: usize, rows: &[u64; 64], struck: &[u64; 64]) -> [u64; 64]
+    requires { ⌜ n ≤ 64 ⌝ }
+    ensures { λ z. ⌜ Without (now (rows .entry)) (now (struck .entry)) z n ⌝ }
+{
+    let mut left = [0u64; 64];
+    for s in 0..n {
+        left[s] = rows[s] ^ struck[s];
+    }
+    left
 }
 
 // Two states, the lower first.
