@@ -1,3 +1,5 @@
 pub mod Rooms
 pub mod Evidence
 pub mod Endings
+pub mod Codes
+pub mod Theorems

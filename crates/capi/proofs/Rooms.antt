@@ -10,7 +10,8 @@ use mir.Val.{boolByte}
 use Rattle.plan.specs.declared.Reading.the-variants.{Counts, Refused}
 use Rattle.plan.specs.Bytes.{planChecks, refusal, reading}
 use Rattle.prepare.specs.Preparing.{short}
-use Rattle.prepare.proofs.Refusals.{lowest-zero, lowest-first, positive, reading-refused, reading-counts}
+use Rattle.plan.proofs.Readings.{reading-refused, reading-well}
+use Rattle.prepare.proofs.Refusals.{lowest-zero, lowest-first, positive}
 use Rattle.records.proofs.Copying.{copied-none, copied-next}
 use Rattle.capi.specs.Numbers.{refusing, noRoom}
 
@@ -18,12 +19,12 @@ module _ (plan : List ℕ) where
   pub no-room-refused : {r : ℕ} → Refused r ≡ reading plan → refusing r ≡ noRoom (planChecks plan)
   unfolding refusal
   no-room-refused {r} e =
-      let (a, n) = reading-refused plan r e in
+      let (a, n) = reading-refused plan (sym e) in
       ap refusing (a ∙ sym (lowest-first (planChecks plan) (short true) (λ z. n (a ∙ z))))
 
   pub no-room-read : {n m p e : ℕ} → Counts n m p e ≡ reading plan → refusing 9 ≡ noRoom (planChecks plan)
   unfolding refusal
-  no-room-read {n} {m} {p} {e} d = ap refusing (sym (lowest-zero (planChecks plan) (short true) (positive plan) (reading-counts plan n m p e d .0)))
+  no-room-read d = ap refusing (sym (lowest-zero (planChecks plan) (short true) (positive plan) (reading-well plan (sym d) .0)))
 
 module _ (old : List ℕ) (a : ℕ) where
   pub stored-one : 1 ≤ length old → set old 0 a ≡ (a ∷ []) ++ drop 1 old

@@ -27,8 +27,7 @@ use Rattle.semiautomata.proofs.Shares.{member-lt}
 use Rattle.semiautomata.proofs.Successors.{place-lt, edge-is}
 use Rattle.walks.specs.Walking.{Letters}
 use Rattle.walks.proofs.Steps.{bare, bare-within}
-use Rattle.plan.specs.declared.Reading.the-variants.{Counts as Numbers, Refused}
-use Rattle.plan.specs.Bytes.{headerOf, meaning, refusal, WellFormed, counts, reading}
+use Rattle.plan.specs.Bytes.{headerOf, meaning, WellFormed}
 use Rattle.plan.specs.Loading.{Loaded}
 use Rattle.plan.proofs.Refusals.{well-formed-range}
 use Rattle.plan.proofs.Loading.{room}
@@ -296,39 +295,19 @@ module _ {S : Semiautomaton} (W : Within S) (k : Evidence) (letters : List ℕ) 
 
 -- THE PLAN
 
-pub refused-by : (plan : List ℕ) {r : ℕ} → reading plan ≡ Refused r → (r ≡ refusal plan) × ¬ (r ≡ 0)
-refused-by plan {r} e = go (eqb (refusal plan) 0) refl e
-  where
-    go : (b : Bool) → eqb (refusal plan) 0 ≡ b → cond b (counts (headerOf plan)) (Refused (refusal plan)) ≡ Refused r → (r ≡ refusal plan) × ¬ (r ≡ 0)
-    go true d e = let z : _≡_ {A = ℕ} 0 1 = cc in absurd (omega arith)
-    go false d e = let i : r ≡ refusal plan = cc in (i, λ z. eqb-false (refusal plan) 0 d (sym i ∙ z))
+pub read-room : (plan : List ℕ) → WellFormed plan → headerOf plan .n * headerOf plan .m ≤ 2048
+read-room plan w = let r = well-formed-range plan w in room (r .n-high) (r .m-high)
 
--- the plan is well formed, with so many states and letters
-pub record Read (plan : List ℕ) (n m : ℕ) : Type 0 where
-  pub formed : WellFormed plan
-  pub n-is : n ≡ headerOf plan .n
-  pub m-is : m ≡ headerOf plan .m
+-- with the counts under the names that code has for them
+module _ {plan old sets : List ℕ} {n m starts : ℕ} (n-is : n ≡ headerOf plan .n) (m-is : m ≡ headerOf plan .m) (l : Loaded plan old sets starts) where
+  pub read-fit : Fit n m sets × (starts < 2 ^ n)
+  read-fit = rw (n-is, m-is) (l .fit, l .starts-fit)
 
-pub read-by : (plan : List ℕ) {n m p l : ℕ} → reading plan ≡ Numbers n m p l → Read plan n m
-read-by plan {n} {m} {p} {l} e = go (eqb (refusal plan) 0) refl e
-  where
-    go : (b : Bool) → eqb (refusal plan) 0 ≡ b → cond b (counts (headerOf plan)) (Refused (refusal plan)) ≡ Numbers n m p l → Read plan n m
-    go true d e = record { formed = eqb-true (refusal plan) 0 d; n-is = cc; m-is = cc }
-    go false d e = let z : _≡_ {A = ℕ} 0 1 = cc in absurd (omega arith)
+  read-means : successors n m starts sets ≡ meaning plan
+  read-means = rw (n-is, m-is) (l .means)
 
-module _ {plan : List ℕ} {n m : ℕ} (i : Read plan n m) where
-  pub read-room : headerOf plan .n * headerOf plan .m ≤ 2048
-  read-room = let r = well-formed-range plan (i .formed) in room (r .n-high) (r .m-high)
+  pub read-yes : {k : Evidence} {letters : List ℕ} → TrueOf (successors n m starts sets) k letters → TrueOf (meaning plan) k letters
+  read-yes {k} {letters} c = subst (λ (S : Semiautomaton). TrueOf S k letters) read-means c
 
-  module _ {old sets : List ℕ} {starts : ℕ} (l : Loaded plan old sets starts) where
-    pub read-fit : Fit n m sets × (starts < 2 ^ n)
-    read-fit = rw (i .n-is, i .m-is) (l .fit, l .starts-fit)
-
-    read-means : successors n m starts sets ≡ meaning plan
-    read-means = rw (i .n-is, i .m-is) (l .means)
-
-    pub read-yes : {k : Evidence} {letters : List ℕ} → TrueOf (successors n m starts sets) k letters → TrueOf (meaning plan) k letters
-    read-yes {k} {letters} c = subst (λ (S : Semiautomaton). TrueOf S k letters) read-means c
-
-    pub read-no : {k : Evidence} {letters : List ℕ} → ¬ TrueOf (successors n m starts sets) k letters → ¬ TrueOf (meaning plan) k letters
-    read-no {k} {letters} f c = f (subst (λ (S : Semiautomaton). TrueOf S k letters) (sym read-means) c)
+  pub read-no : {k : Evidence} {letters : List ℕ} → ¬ TrueOf (successors n m starts sets) k letters → ¬ TrueOf (meaning plan) k letters
+  read-no {k} {letters} f c = f (subst (λ (S : Semiautomaton). TrueOf S k letters) (sym read-means) c)

@@ -1,9 +1,9 @@
--- The places of successor sets, one by one: the state and the letter of a place.
+-- The places of successor sets.
 -- Assumes nothing.
 use mathlib.Core.Path.{_≡_, refl, _∙_}
 use mathlib.Core.List.{List}
 use Prim.Native.Nat.{ℕ, zero, suc, _*_, _/_, _%_, _^_, _≤_, _<_}
-use native.Mathlib.Nat.{mul-le-mul, mod-lt, div-add-mod', div-lt-iff-lt-mul, mul-add-div-right, mul-add-mod-self-right, div-eq-of-lt, mod-eq-of-lt, lt-of-lt-of-le, lt-of-le-of-lt}
+use native.Mathlib.Nat.{mul-le-mul, mul-add-div-right, mul-add-mod-self-right, div-eq-of-lt, mod-eq-of-lt, lt-of-lt-of-le, lt-of-le-of-lt}
 use native.Mathlib.Omega.{arith}
 use lib.Count.{trailingZeros, trailing-le}
 use lib.Dec.{lit<}
@@ -11,23 +11,6 @@ use lib.ListN.{length, getD, replicate}
 use Rattle.semiautomata.specs.Successors.{place, Fit}
 use Rattle.semiautomata.proofs.Successors.{place-lt}
 use Rattle.lookahead.specs.Rows.{after}
-
-module _ (n m i : ℕ) (h : i < n * m) where
-  pub some-letter : 0 < m
-  some-letter = go m h
-    where
-      go : (m : ℕ) → i < n * m → 0 < m
-      go zero h = absurd (omega arith)
-      go (suc m) h = omega arith
-
-  pub state-lt : i / m < n
-  state-lt = div-lt-iff-lt-mul some-letter .1 h
-
-  pub letter-lt : i % m < m
-  letter-lt = mod-lt i some-letter
-
-  pub place-of : place m (i / m) (i % m) ≡ i
-  place-of = div-add-mod' i m
 
 pub place-in : {n m : ℕ} {sets : List ℕ} → Fit n m sets → (q a : ℕ) → q < n → a < m → place m q a < length sets
 place-in {n} {m} f q a h g = lt-of-lt-of-le (place-lt n m q a h g) (f .room)

@@ -19,10 +19,10 @@ use Rattle.bitset.proofs.Bits.{has-and, has-empty, has-setOf, setOf-lt}
 use Rattle.bitset.proofs.Members.{trailing-member}
 use Rattle.semiautomata.specs.Predictability.{Critical, initial, fork, member}
 use Rattle.semiautomata.specs.Successors.{place, successors}
-use Rattle.semiautomata.proofs.Successors.{place-lt, edge-out, edge-is}
+use Rattle.semiautomata.proofs.Successors.{place-lt, edge-out, edge-is, state-lt, letter-lt, place-of}
 use Rattle.lookahead.specs.Rows.{pair, Put, Paired}
 use Rattle.lookahead.specs.Rivals.{Together, Named, Rivalry}
-use Rattle.lookahead.proofs.Places.{zeros-at, state-lt, letter-lt, place-of}
+use Rattle.lookahead.proofs.Places.{zeros-at}
 
 -- THE CRITICAL SETS, PLACE BY PLACE
 

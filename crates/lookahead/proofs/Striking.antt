@@ -40,16 +40,17 @@ module _ (n m : ℕ) (sets live look : List ℕ) where
     some = λ t. has-empty t;
   }
 
-  -- the states that are tested with s are those no higher
-  falls-is : (s out : ℕ) → s < n → n ≤ 64 → out ≡ setOf n (λ t. has (bitAnd (bitAnd (getD look s 0) (getD live s 0)) (setOf 64 (λ t. ltb t (s + 1)))) t && not (leads n m sets live s t))
-      → (t : ℕ) → has out t ≡ falls n m sets live look s t
+  -- the states that are struck by the tests of row s: they are no higher than s
+  abbrev row : ℕ → ℕ
+  row s = setOf n (λ t. has (bitAnd (bitAnd (getD look s 0) (getD live s 0)) (setOf 64 (λ t. ltb t (s + 1)))) t && not (leads n m sets live s t))
+
+  falls-is : (s out : ℕ) → s < n → n ≤ 64 → out ≡ row s → (t : ℕ) → has out t ≡ falls n m sets live look s t
   falls-is s out h w e t = elim (decLt s t) [
     | yes g ↦ rw (e, has-setOf, has-and, has-setOf, le-ltb t (s + 1) (omega arith), lt-leb t s g, and-false, and-false, and-false)
     | no g ↦ rw (e, has-setOf, has-and, has-setOf, lt-ltb t n (omega arith), lt-ltb t 64 (omega arith), lt-ltb t (s + 1) (omega arith), le-leb t s (omega arith), and-true, has-and)
   ]
 
-  pub struck-next : {old mid new : List ℕ} {gone s out : ℕ} → s < n → n ≤ 64
-      → out ≡ setOf n (λ t. has (bitAnd (bitAnd (getD look s 0) (getD live s 0)) (setOf 64 (λ t. ltb t (s + 1)))) t && not (leads n m sets live s t))
+  pub struck-next : {old mid new : List ℕ} {gone s out : ℕ} → s < n → n ≤ 64 → out ≡ row s
       → Put out ((1 * 2 ^ s) % 2 ^ 64) old mid → Put ((1 * 2 ^ s) % 2 ^ 64) out mid new
       → Struck n m sets live look old gone s → Struck n m sets live look new (bitOr gone out) (s + 1)
   unfolding any

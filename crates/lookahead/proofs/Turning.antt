@@ -16,7 +16,8 @@ use Rattle.bitset.proofs.Below.{any-in, any-out}
 use Rattle.bitset.proofs.Bits.{has-empty, has-setOf, has-shl, same-members, setOf-lt}
 use Rattle.semiautomata.specs.Successors.{place, Fit}
 use Rattle.lookahead.specs.Rows.{after, Paired, Sources, Laid, Turned}
-use Rattle.lookahead.proofs.Places.{place-state, place-letter, zeros-at, size-le, place-of, state-lt, letter-lt}
+use Rattle.semiautomata.proofs.Successors.{place-of, state-lt, letter-lt}
+use Rattle.lookahead.proofs.Places.{place-state, place-letter, zeros-at, size-le}
 
 -- the only state whose bit is t is t itself
 any-bit : (n t : ℕ) (p : ℕ → Bool) → n ≤ 64 → any n (λ s. p s && has ((1 * 2 ^ s) % 2 ^ 64) t) ≡ (ltb t n && p t)

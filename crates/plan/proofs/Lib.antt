@@ -2,5 +2,6 @@ pub mod Tests
 pub mod Groups
 pub mod Entering
 pub mod Refusals
+pub mod Readings
 pub mod Loading
 pub mod Theorems

@@ -53,14 +53,16 @@ abbrev pub Feeds : List ℕ → List ℕ → ℕ → Answer → List ℕ → Typ
 Feeds table bytes letter answer left = (said answer ≡ fedOn table bytes letter .reply) × (left ≡ fedOn table bytes letter .state)
 
 -- Ending: 9 also for fewer than k sets lent.
-unfoldable pub endRefusal : List ℕ → List ℕ → ℕ → ℕ
-endRefusal table bytes sets =
-    lowest
-    (tableCheck table
+abbrev pub endChecks : List ℕ → List ℕ → ℕ → List Check
+endChecks table bytes sets =
+    tableCheck table
     ∷ record { number = 9; applies = ltb (length bytes) (heldFrom + lookaheadOf table) || ltb sets (lookaheadOf table) }
     ∷ tidyCheck table bytes
     ∷ soundCheck (tableMeaning table) (lookaheadOf table) (decode bytes)
-    ∷ [])
+    ∷ []
+
+unfoldable pub endRefusal : List ℕ → List ℕ → ℕ → ℕ
+endRefusal table bytes sets = lowest (endChecks table bytes sets)
 
 -- The sets that ending writes, as numbers.
 abbrev pub ended : List ℕ → List ℕ → List ℕ

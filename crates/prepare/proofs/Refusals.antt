@@ -1,4 +1,4 @@
--- The refusals of preparing and of the count call, from the reader's and the lent lengths; and what a reading tells.
+-- The refusals of preparing and of the count call, from the reader's and the lent lengths.
 -- Assumes nothing.
 use Prim.Native.Nat.{ℕ, zero, suc, _+_, _*_, _≤_, _<_}
 use mathlib.Core.Bool.{Bool, true, false, cond, _||_}
@@ -11,8 +11,7 @@ use lib.Dec.{eqb, ltb}
 use borrow.Author.Tests.{eqb-true, eqb-false, lt-ltb, le-ltb, ltb-false}
 use Rattle.bitset.proofs.Tests.{decided}
 use Rattle.semiautomata.specs.Calls.{Check, lowest}
-use Rattle.plan.specs.declared.Reading.the-variants.{Counts, Refused}
-use Rattle.plan.specs.Bytes.{headerOf, planChecks, refusal, WellFormed, reading}
+use Rattle.plan.specs.Bytes.{headerOf, planChecks, refusal, WellFormed}
 use Rattle.plan.proofs.Refusals.{well-formed-range}
 use Rattle.table.specs.Table.{setsFrom}
 use Rattle.prepare.specs.Preparing.{short, shortTable, shortLetters, countRefusal, prepareRefusal}
@@ -63,24 +62,6 @@ module _ (plan : List ℕ) where
   pub prepare-unwell : ¬ (refusal plan ≡ 0) → (table letters : ℕ) → prepareRefusal plan table letters ≡ refusal plan
   unfolding refusal prepareRefusal
   prepare-unwell n table letters = lowest-first (planChecks plan) (short (shortTable plan table || shortLetters plan letters)) n
-
-  -- A READING
-  pub reading-refused : (r : ℕ) → Refused r ≡ reading plan → (r ≡ refusal plan) × ¬ (r ≡ 0)
-  reading-refused r e = go (decided (eqb (refusal plan) 0))
-    where
-      go : (eqb (refusal plan) 0 ≡ true) ⊎ (eqb (refusal plan) 0 ≡ false) → (r ≡ refusal plan) × ¬ (r ≡ 0)
-      go (inl q) = let d = rw q at e in let z : _≡_ {A = ℕ} 0 1 = cc in absurd (omega arith)
-      go (inr q) =
-          let d : Refused r ≡ Refused (refusal plan) = rw q at e in
-          let f : r ≡ refusal plan = cc in
-          (f, λ z. eqb-false (refusal plan) 0 q (sym f ∙ z))
-
-  pub reading-counts : (n m p e : ℕ) → Counts n m p e ≡ reading plan → WellFormed plan × (n ≡ headerOf plan .n) × (m ≡ headerOf plan .m)
-  reading-counts n m p e d = go (decided (eqb (refusal plan) 0))
-    where
-      go : (eqb (refusal plan) 0 ≡ true) ⊎ (eqb (refusal plan) 0 ≡ false) → WellFormed plan × (n ≡ headerOf plan .n) × (m ≡ headerOf plan .m)
-      go (inl q) = let f = rw q at d in (eqb-true (refusal plan) 0 q, (cc), (cc))
-      go (inr q) = let f = rw q at d in let z : _≡_ {A = ℕ} 0 1 = cc in absurd (omega arith)
 
   -- with the counts under the names that code has for them
   module _ (w : WellFormed plan) {n : ℕ} (en : n ≡ headerOf plan .n) where

@@ -2,23 +2,25 @@
 -- Assumes nothing.
 use Prim.Native.Nat.{ℕ, _+_, _*_, _≤_}
 use native.Mathlib.Omega.{arith}
-use mathlib.Core.Path.{_≡_, refl, _∙_, ap}
+use mathlib.Core.Path.{_≡_, refl, sym, _∙_, ap}
 use mathlib.Core.Logic.{inl, inr}
 use mathlib.Core.List.{List}
-use lib.ListN.{length}
+use lib.ListN.{length, take-append-drop}
 use Rattle.semiautomata.proofs.Shares.{lookahead-unique, lookahead-predicts}
 use Rattle.semiautomata.proofs.Bound.{lookahead-bound, lookahead-bound-one}
 use Rattle.semiautomata.proofs.Decide.{witness-unpredictable}
 use Rattle.semiautomata.specs.Semiautomaton.{Semiautomaton}
 use Rattle.semiautomata.specs.Predictability.{Lookahead, Unpredictable}
 use Rattle.plan.specs.Bytes.{headerOf, meaning, WellFormed}
-use Rattle.table.specs.Table.{setsFrom}
+use Rattle.table.specs.Table.{statesOf, lettersOf, setsFrom}
+use Rattle.table.proofs.Fitness.{fitting}
+use Rattle.table.proofs.OneForm.{one-form}
 use Rattle.plan.proofs.Refusals.{well-formed-within}
 use Rattle.lookahead.specs.declared.Evidence.{Evidence}
 use Rattle.prepare.specs.declared.Prepared.the-variants as prepared
 use Rattle.claim.specs.declared.Checked.{Checked}
 use Rattle.claim.specs.declared.Checked.the-variants.{Yes, No, Refused}
-use Rattle.prepare.specs.Preparing.{refusalOf, Shown, Prepares, CountsTo}
+use Rattle.prepare.specs.Preparing.{refusalOf, Tabled, Shown, Prepares, CountsTo}
 use Rattle.prepare.specs.declared.Prepared.{Prepared}
 use Rattle.claim.specs.Checking.{Checks}
 use Rattle.prepare.specs.Theorems.{Answers, Right, Theorems}
@@ -57,6 +59,14 @@ right plan (prepared.Unpredictable x) old letters n c =
       never = (λ _. u, λ _. refl);
     }
 
+-- what a table means, its look-ahead and what is kept fix all of it
+one-table : {S : Semiautomaton} {k : ℕ} {old t u : List ℕ} → Tabled S k old t → Tabled S k old u → t ≡ u
+one-table {S} {t = t} {u = u} a b =
+    let c = setsFrom + S .n * S .m in
+    let long : setsFrom + statesOf t * lettersOf t ≡ c = ap (λ (S : Semiautomaton). setsFrom + S .n * S .m) (a .means) in
+    let front = rw long at (one-form (fitting t (a .fit)) (fitting u (b .fit)) (a .means ∙ sym (b .means)) (a .k-is ∙ sym (b .k-is))) in
+    sym (take-append-drop c t) ∙ rw (front, a .kept ∙ sym (b .kept)) (take-append-drop c u)
+
 -- with room enough there is no other refusal
 module _ (plan : List ℕ) (w : WellFormed plan) (a : Prepared) where
   counts-on : (old letters : List ℕ) → headerOf plan .n * headerOf plan .n ≤ length old → CountsTo plan a old letters → (r : ℕ) → ¬ (a ≡ prepared.Refused r)
@@ -70,6 +80,7 @@ pub theorems : (plan : List ℕ) → Theorems plan
 theorems plan = record {
   same-k = λ k j old letters old′ letters′ a b. lookahead-unique (ready plan b .1) (ready plan a .1);
   not-both = λ k e old letters old′ letters′ a s. lookahead-predicts (ready plan a .1) (shown-never (never plan s .1));
+  one-table = λ k j old table table′ old′ letters old″ letters′ (_, x, a, _) (_, y, b, _). one-table a (rw (lookahead-unique y x) at b);
   counted-right = λ w a old letters g c. right plan a old letters (counts-on plan w a old letters g c) (inl c);
   prepared-right = λ w a old table old′ letters f g c. right plan a old′ letters (prepares-on plan w a old table old′ letters f g c) (inr (old, table, c));
   never-so = λ e old letters s. shown-never (never plan s .1);

@@ -30,6 +30,9 @@ pub record Theorems (plan : List ℕ) : Type 0 where
   -- any two calls agree: the same k, or 15 from both
   pub same-k : (k j : ℕ) (old letters old′ letters′ : List ℕ) → Answers plan (Ready k) old letters → Answers plan (Ready j) old′ letters′ → j ≡ k
   pub not-both : (k : ℕ) (e : Evidence) (old letters old′ letters′ : List ℕ) → Answers plan (Ready k) old letters → ¬ Answers plan (Unpredictable e) old′ letters′
+  -- two calls of preparing that are lent the same numbers leave the same table
+  pub one-table : (k j : ℕ) (old table table′ old′ letters old″ letters′ : List ℕ) → Prepares plan (Ready k) old table old′ letters
+      → Prepares plan (Ready j) old table′ old″ letters′ → table ≡ table′
   -- a well-formed plan, lent buffers being long enough, is refused as unpredictable exactly when no k exists; otherwise k is answered
   pub counted-right : WellFormed plan → (a : Prepared) (old letters : List ℕ) → headerOf plan .n * headerOf plan .n ≤ length old
       → CountsTo plan a old letters → Right (meaning plan) a

@@ -1,11 +1,11 @@
 -- Laws of a semiautomaton by numbers.
 -- Assumes nothing.
-use Prim.Native.Nat.{ℕ, _*_, _^_, _<_}
+use Prim.Native.Nat.{ℕ, zero, suc, _*_, _/_, _%_, _^_, _<_}
 use mathlib.Core.Bool.{true}
 use mathlib.Core.Path.{_≡_, sym, _∙_, fun-ext}
 use mathlib.Core.List.{List}
 use native.Mathlib.Omega.{arith}
-use native.Mathlib.Nat.{mul-le-mul-right}
+use native.Mathlib.Nat.{mul-le-mul-right, mod-lt, div-add-mod', div-lt-iff-lt-mul}
 use lib.Dec.{ltb}
 use lib.ListN.{getD}
 use borrow.Author.Tests.{ltb-true, lt-ltb}
@@ -18,6 +18,24 @@ use Rattle.semiautomata.specs.Successors.{place, successors, Fit}
 -- a place lies among the n × m sets
 pub place-lt : (n m q a : ℕ) → q < n → a < m → place m q a < n * m
 place-lt n m q a h g = omega (arith, mul-le-mul-right m h)
+
+-- the state and the letter of a place
+module _ (n m i : ℕ) (h : i < n * m) where
+  pub some-letter : 0 < m
+  some-letter = go m h
+    where
+      go : (m : ℕ) → i < n * m → 0 < m
+      go zero h = absurd (omega arith)
+      go (suc m) h = omega arith
+
+  pub state-lt : i / m < n
+  state-lt = div-lt-iff-lt-mul some-letter .1 h
+
+  pub letter-lt : i % m < m
+  letter-lt = mod-lt i some-letter
+
+  pub place-of : place m (i / m) (i % m) ≡ i
+  place-of = div-add-mod' i m
 
 module _ (n m starts : ℕ) (sets : List ℕ) where
   -- an edge of them is a bit of the set at its place

@@ -11,7 +11,7 @@ use Rattle.semiautomata.specs.Semiautomaton.{Semiautomaton}
 use Rattle.semiautomata.specs.Predictability.{Critical, member, named}
 use Rattle.semiautomata.specs.Walks.{spells, survivors}
 use Rattle.semiautomata.specs.Selectors.{Survives, MinimalSelector, MaximalNonselector, minimalSelector, maximalNonselector}
-use Rattle.semiautomata.specs.Calls.{lowest}
+use Rattle.semiautomata.specs.Calls.{Check, lowest}
 use Rattle.table.specs.Table.{lettersOf, tableMeaning, unfit}
 use Rattle.walks.specs.Walking.{letterOff}
 use Rattle.simulate.specs.Walking.{Stands}
@@ -24,12 +24,14 @@ abbrev pub unnamed : Option Critical → Bool
 unnamed (some T) = false
 unnamed none = true
 
-unfoldable pub verdictRefusal : List ℕ → ℕ → ℕ → List ℕ → ℕ
-verdictRefusal table q a word =
-    lowest
-    (record { number = 8; applies = unfit table }
+abbrev pub verdictChecks : List ℕ → ℕ → ℕ → List ℕ → List Check
+verdictChecks table q a word =
+    record { number = 8; applies = unfit table }
     ∷ record { number = 12; applies = unnamed (named (tableMeaning table) q a) || letterOff (lettersOf table) word }
-    ∷ [])
+    ∷ []
+
+unfoldable pub verdictRefusal : List ℕ → ℕ → ℕ → List ℕ → ℕ
+verdictRefusal table q a word = lowest (verdictChecks table q a word)
 
 -- The states of T that can walk the word, whether it is a minimal selector in T, and the states of which it is a maximal nonselector.
 pub record Tells (S : Semiautomaton) (T : Critical) (word : List ℕ) (v : Verdict) : Type 0 where

@@ -8,21 +8,23 @@ use mathlib.Core.List.{List, [], _∷_}
 use lib.Dec.{ltb}
 use lib.ListN.{length, getD, drop}
 use Rattle.bitset.specs.Sets.{any, has}
-use Rattle.semiautomata.specs.Calls.{lowest}
+use Rattle.semiautomata.specs.Calls.{Check, lowest}
 use Rattle.semiautomata.specs.Walks.{Longest, PossibleAt}
 use Rattle.walks.specs.Walking.{letterOff}
 use Rattle.table.specs.Table.{statesOf, lettersOf, tableMeaning, unfit}
 use Rattle.simulate.specs.declared.Walked.{Walked}
 use Rattle.simulate.specs.declared.Walked.the-variants.{Upto, Refused}
 
-unfoldable pub walkRefusal : List ℕ → List ℕ → ℕ → ℕ
-walkRefusal table word out =
-    lowest
-    (record { number = 8; applies = unfit table }
+abbrev pub walkChecks : List ℕ → List ℕ → ℕ → List Check
+walkChecks table word out =
+    record { number = 8; applies = unfit table }
     ∷ record { number = 9; applies = ltb out (suc (length word)) }
     ∷ record { number = 12; applies = letterOff (lettersOf table) word }
     ∷ record { number = 13; applies = not (any (statesOf table) (tableMeaning table .initial)) }
-    ∷ [])
+    ∷ []
+
+unfoldable pub walkRefusal : List ℕ → List ℕ → ℕ → ℕ
+walkRefusal table word out = lowest (walkChecks table word out)
 
 -- The number stands for the set of those below n of which P holds.
 pub record Stands (n : ℕ) (P : ℕ → Type 0) (set : ℕ) : Type 0 where

@@ -1,3 +1,4 @@
 pub mod Fitness
 pub mod Form
+pub mod OneForm
 pub mod Theorems

@@ -19,7 +19,8 @@ use Rattle.plan.specs.Bytes.{headerOf, meaning, refusal, reading, WellFormed}
 use Rattle.plan.proofs.Refusals.{well-formed-range}
 use Rattle.table.specs.Table.{lookaheadOf, tableMeaning}
 use Rattle.prepare.specs.Preparing.{prepareRefusal, Tabled}
-use Rattle.prepare.proofs.Refusals.{square, prepare-clear, reading-refused}
+use Rattle.plan.proofs.Readings.{reading-refused, reading-well}
+use Rattle.prepare.proofs.Refusals.{square, prepare-clear}
 use Rattle.text.specs.declared.Printed.{Printed}
 use Rattle.text.specs.declared.Printed.the-variants.{Going, Ended, Short}
 use Rattle.text.specs.Lines.{countsLine, lookaheadLine, refusedLine, Appended}
@@ -115,11 +116,7 @@ module _ (input : List ℕ) (e : noPlan input ≡ false) (rest : List ℕ) where
 -- what is read of the plan
 module _ (plan : List ℕ) {n m s l : ℕ} (d : Counts n m s l ≡ reading plan) where
   read-counts : WellFormed plan × (countsLine n m s l ≡ countsOf (headerOf plan))
-  read-counts = go (decided (eqb (refusal plan) 0))
-    where
-      go : (eqb (refusal plan) 0 ≡ true) ⊎ (eqb (refusal plan) 0 ≡ false) → WellFormed plan × (countsLine n m s l ≡ countsOf (headerOf plan))
-      go (inl q) = let f = rw q at d in (eqb-true (refusal plan) 0 q, (cc))
-      go (inr q) = let f = rw q at d in let z : _≡_ {A = ℕ} 0 1 = cc in absurd (omega arith)
+  read-counts = let (w, is) = reading-well plan (sym d) in (w, (cc))
 
   pub read-well : WellFormed plan
   read-well = read-counts .0
@@ -133,7 +130,7 @@ module _ (input : List ℕ) {old : List ℕ} where
     pub begun-ill : (number : ℕ) → Refused number ≡ reading (planOf input) → {r : ℕ} {out : List ℕ} → Appended old 0 (refusedLine number) r out
         → Laid (ReportText input) old 0 r out (λ rest. [])
     begun-ill number d p =
-        let (is, n) = reading-refused (planOf input) number d in
+        let (is, n) = reading-refused (planOf input) (sym d) in
         lays-last (ReportText input) p (λ rest _. rw is (report-ill input e rest (λ w. n (is ∙ w))))
 
     module _ {n m s l : ℕ} (d : Counts n m s l ≡ reading (planOf input)) {at : ℕ} {mid : List ℕ} (p : Appended old 0 (countsLine n m s l) at mid) where

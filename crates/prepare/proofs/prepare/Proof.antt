@@ -3,7 +3,8 @@
 use mathlib.Core.Path.{refl, sym, _∙_}
 use native.Mathlib.Omega.{arith}
 use denote.Ref.{now}
-use Rattle.prepare.proofs.Refusals.{reading-counts, reading-refused, prepare-unwell}
+use Rattle.plan.proofs.Readings.{reading-counts, reading-refused}
+use Rattle.prepare.proofs.Refusals.{prepare-unwell}
 use borrow.Author.Needs.{needs}
 use Rattle.prepare.proofs.prepare.Statement.{statement}
 use Rattle.prepare.proofs.prepare.Tie as tie
@@ -24,11 +25,11 @@ cast-prepare-sound-2 : tie.Need-cast-prepare-sound-2
 cast-prepare-sound-2 c = search needs
 
 prepare-sound-requires : tie.Need-prepare-sound-requires
-prepare-sound-requires c κs = reading-counts (now (c .before .before .before .before .before .before .before .before .before .args .plan)) _ _ _ _ (sym (c .before .before .before .reading2 .given .1) ∙ c .before .before .before .before .before .read .ensures)
+prepare-sound-requires c κs = reading-counts _ (sym (c .before .before .before .before .before .read .ensures) ∙ c .before .before .before .reading2 .given .1)
 
 returns : tie.Need-returns
 returns c =
-    let (a, n) = reading-refused (now (c .before .before .before .before .before .before .before .args .plan)) _ (sym (c .before .reading .given .1) ∙ c .before .before .before .read .ensures) in
+    let (a, n) = reading-refused _ (sym (c .before .before .before .read .ensures) ∙ c .before .reading .given .1) in
     (a ∙ sym (prepare-unwell (now (c .before .before .before .before .before .before .before .args .plan)) (λ e. n (a ∙ e)) _ _), n, refl, refl)
 
 same-length : tie.Need-same-length

@@ -9,8 +9,7 @@ use Rattle.bitset.specs.Sets.{has}
 use native.Mathlib.Nat.{mul-le-mul}
 use borrow.Author.Count.{below-more}
 use Rattle.semiautomata.proofs.Shares.{member-lt}
-use Rattle.semiautomata.proofs.Successors.{fit-within}
-use Rattle.lookahead.proofs.Places.{some-letter, state-lt, letter-lt}
+use Rattle.semiautomata.proofs.Successors.{fit-within, some-letter, state-lt, letter-lt}
 use Rattle.lookahead.proofs.Rivals.{names-initial, names-fork, together-none}
 use Rattle.lookahead.proofs.witness.critical_set.Statement.{statement}
 use Rattle.lookahead.proofs.witness.critical_set.Tie as tie

@@ -1,0 +1,223 @@
+-- The numbers of answers: refusals are 1 to 15, and values are small.
+-- Assumes nothing.
+use Prim.Native.Nat.{ℕ, zero, suc, _-_, _≤_, _<_}
+use mathlib.Core.Bool.{Bool, true, false, cond, not, _||_}
+use mathlib.Core.Option.{Option, some, none}
+use mathlib.Core.Path.{_≡_, refl, sym, _∙_, subst}
+use mathlib.Core.Logic.{_⊎_, inl, inr}
+use mathlib.Core.List.{List, [], _∷_, _++_}
+use native.Mathlib.Omega.{arith}
+use lib.Dec.{eqb, ltb}
+use lib.ListN.{length}
+use Rattle.bitset.specs.Sets.{any, size, least}
+use Rattle.bitset.proofs.Tests.{decided}
+use Rattle.semiautomata.specs.Semiautomaton.{Semiautomaton}
+use Rattle.semiautomata.specs.Walks.{possible}
+use Rattle.semiautomata.specs.Calls.{Reply, refused, resolved, nothing, Result, Check, checked, lowest}
+use Rattle.semiautomata.specs.Streaming.{base, soleAt, resolve, settle, settled, unopened, opened, feedChecks, feed}
+use Rattle.plan.specs.Bytes.{planChecks, refusal, reading}
+use Rattle.plan.specs.declared.Reading.{Reading}
+use Rattle.plan.specs.declared.Reading.the-variants as read
+use Rattle.plan.proofs.Refusals.{well-formed-range}
+use Rattle.plan.proofs.Readings.{reading-refused, reading-counts}
+use Rattle.table.specs.Table.{statesOf, lookaheadOf, tableMeaning, unfit}
+use Rattle.table.proofs.Fitness.{fitting}
+use Rattle.prepare.specs.declared.Prepared.{Prepared}
+use Rattle.prepare.specs.declared.Prepared.the-variants.{Ready, Refused, Unpredictable}
+use Rattle.prepare.specs.Preparing.{short, shortTable, shortLetters, countRefusal, prepareRefusal, Prepares, CountsTo}
+use Rattle.prepare.proofs.Refusals.{count-passes, prepare-passes}
+use Rattle.prepare.proofs.Answers.{small}
+use Rattle.lookahead.specs.declared.Evidence.{Evidence}
+use Rattle.claim.specs.declared.Checked.{Checked}
+use Rattle.claim.specs.declared.Checked.the-variants as claim
+use Rattle.claim.specs.Checking.{Checks}
+use Rattle.simulate.specs.declared.Walked.{Walked}
+use Rattle.simulate.specs.declared.Walked.the-variants as walked
+use Rattle.simulate.specs.Walking.{walkChecks, walkRefusal, Walks}
+use Rattle.simulate.specs.declared.Judged.{Judged}
+use Rattle.simulate.specs.declared.Judged.the-variants as judged
+use Rattle.simulate.specs.Verdicts.{verdictChecks, verdictRefusal, Judges}
+use Rattle.predictor.specs.declared.Answer.{Answer}
+use Rattle.predictor.specs.declared.Answer.the-variants as answer
+use Rattle.predictor.specs.Replies.{said}
+use Rattle.predictor.specs.declared.Ended.{Ended}
+use Rattle.predictor.specs.declared.Ended.the-variants as ended
+use Rattle.predictor.specs.Calls.{tableCheck, recordCheck, tidyCheck, onto, openedOn, fedOn, Opens, Feeds, endChecks, endRefusal, Ends}
+use Rattle.records.specs.Bytes.{decode}
+use Rattle.capi.specs.Numbers.{Numbers, refusing, noRoom, ofReading, ofPrepared, ofChecked, ofWalked, ofJudged, ofAnswer, ofEnded, Gives, answers, refuses}
+use Rattle.capi.specs.Theorems.{Code, value, refusal as refusal-code}
+use Rattle.capi.proofs.Endings.{few-ended}
+
+-- CHECKS IN ORDER
+
+-- their numbers are those of refusals
+abbrev pub Numbered : List Check → Type 0
+Numbered [] = Unit {0}
+Numbered (c ∷ cs) = (1 ≤ c .number) × (c .number ≤ 15) × Numbered cs
+
+lowest-le : (cs : List Check) → Numbered cs → lowest cs ≤ 15
+lowest-le [] _ = omega arith
+lowest-le (c ∷ cs) (_, h, n) = go (decided (c .applies)) (lowest-le cs n)
+  where
+    go : (c .applies ≡ true) ⊎ (c .applies ≡ false) → lowest cs ≤ 15 → lowest (c ∷ cs) ≤ 15
+    go (inl a) ih = rw a h
+    go (inr a) ih = rw a ih
+
+pub refused-code : (cs : List Check) → Numbered cs → {r : ℕ} → r ≡ lowest cs → ¬ (r ≡ 0) → Code (refusing r)
+refused-code cs n {r} e z = let h = lowest-le cs n in refusal-code r (omega (arith, z)) (omega (arith, h, e)) refl
+
+-- for want of room some refusal is given
+no-room : (cs : List Check) → Numbered cs → (1 ≤ lowest (cs ++ short true)) × (lowest (cs ++ short true) ≤ 15)
+no-room [] _ = (omega arith, omega arith)
+no-room (c ∷ cs) (l, h, n) = go (decided (c .applies)) (no-room cs n)
+  where
+    go : (c .applies ≡ true) ⊎ (c .applies ≡ false) → (1 ≤ lowest (cs ++ short true)) × (lowest (cs ++ short true) ≤ 15)
+        → (1 ≤ lowest (c ∷ (cs ++ short true))) × (lowest (c ∷ (cs ++ short true)) ≤ 15)
+    go (inl a) ih = rw a (l, h)
+    go (inr a) ih = rw a ih
+
+pub gives-code : {A : Type 0} {numbers : A → Numbers} {room : ℕ} {before : List Check} {Meets : A → Type 0} {Kept : Type 0} {r : ℕ} {old more : List ℕ}
+    → Numbered before → ((a : A) → Meets a → Code (numbers a .code)) → Gives numbers room before Meets Kept r old more → Code r
+gives-code n f (answers _ a m p) = rw (p .answered) (f a m)
+gives-code {before = before} n f (refuses _ e _ _) = let (l, h) = no-room before n in refusal-code _ l h e
+
+pub plan-numbered : (plan : List ℕ) (more : List Check) → Numbered more → Numbered (planChecks plan ++ more)
+plan-numbered plan more n =
+    (omega arith, omega arith, (omega arith, omega arith, (omega arith, omega arith, (omega arith, omega arith, (omega arith, omega arith, (omega arith, omega arith, (omega arith, omega arith, n)))))))
+
+-- ANSWERS ABOUT A PLAN
+
+module _ (plan : List ℕ) where
+  pub unread-code : {r : ℕ} → r ≡ refusal plan → ¬ (r ≡ 0) → Code (refusing r)
+  unfolding refusal
+  unread-code = refused-code (planChecks plan) (plan-numbered plan [] tt)
+
+  short-code : (b : Bool) {r : ℕ} → r ≡ lowest (planChecks plan ++ short b) → ¬ (r ≡ 0) → Code (refusing r)
+  short-code b = refused-code (planChecks plan ++ short b) (plan-numbered plan (short b) (omega arith, omega arith, tt))
+
+  pub reading-code : (a : Reading) → a ≡ reading plan → Code (ofReading a .code)
+  reading-code (read.Counts n m p e) d =
+      let (w, is, _) = reading-counts plan (sym d) in
+      let h = well-formed-range plan w .n-high in
+      value (omega arith)
+  reading-code (read.Refused r) d = let (is, z) = reading-refused plan (sym d) in unread-code is z
+
+  pub prepared-code : (old table old′ letters : List ℕ) (a : Prepared) → Prepares plan a old table old′ letters → Code (ofPrepared a .code)
+  unfolding prepareRefusal
+  prepared-code old table old′ letters (Ready k) (p, a, _, _) = let h = small plan (prepare-passes plan _ _ p) k a in value (omega arith)
+  prepared-code old table old′ letters (Refused r) (e, z, _, _) =
+      short-code (shortTable plan (length old) || shortLetters plan (length old′)) e z
+  prepared-code old table old′ letters (Unpredictable e) _ = refusal-code 15 (omega arith) (omega arith) refl
+
+  pub counted-code : (old letters : List ℕ) (a : Prepared) → CountsTo plan a old letters → Code (ofPrepared a .code)
+  unfolding countRefusal
+  counted-code old letters (Ready k) (p, a, _) = let h = small plan (count-passes plan _ p) k a in value (omega arith)
+  counted-code old letters (Refused r) (e, z, _) = short-code (shortLetters plan (length old)) e z
+  counted-code old letters (Unpredictable e) _ = refusal-code 15 (omega arith) (omega arith) refl
+
+  pub checked-code : (c : Evidence) (letters : List ℕ) (a : Checked) → Checks plan c letters a → Code (ofChecked a .code)
+  checked-code c letters claim.Yes _ = value (omega arith)
+  checked-code c letters claim.No _ = value (omega arith)
+  checked-code c letters (claim.Refused r) (e, z) = unread-code e z
+
+-- ANSWERS ABOUT A TABLE
+
+pub walked-code : (table word old out : List ℕ) (a : Walked) → Walks table word a old out → Code (ofWalked a .code)
+unfolding walkRefusal
+walked-code table word old out (walked.Upto g) _ = value (omega arith)
+walked-code table word old out (walked.Refused r) (e, z, _) =
+    refused-code (walkChecks table word (length old)) (omega arith, omega arith, (omega arith, omega arith, (omega arith, omega arith, (omega arith, omega arith, tt)))) e z
+
+pub judged-code : (table : List ℕ) (q a : ℕ) (word : List ℕ) (j : Judged) → Judges table q a word j → Code (ofJudged j .code)
+unfolding verdictRefusal
+judged-code table q a word (judged.Told v) _ = value (bit (v .minimal))
+  where
+    bit : (b : Bool) → cond b 1 0 < 65536
+    bit true = omega arith
+    bit false = omega arith
+judged-code table q a word (judged.Refused r) (e, z) = refused-code (verdictChecks table q a word) (omega arith, omega arith, (omega arith, omega arith, tt)) e z
+
+pub ended-code : (table bytes old out : List ℕ) (a : Ended) → Ends table bytes a old out → Code (ofEnded a .code)
+unfolding endRefusal
+ended-code table bytes old out (ended.Open c) (e, is, _) = let h = few-ended table bytes (length old) e in value (omega arith)
+ended-code table bytes old out (ended.Refused r) (e, z, _) =
+    refused-code (endChecks table bytes (length old)) (omega arith, omega arith, (omega arith, omega arith, (omega arith, omega arith, (omega arith, omega arith, tt)))) e z
+
+-- REPLIES
+
+abbrev Small : Reply → Type 0
+Small (refused r) = (1 ≤ r) × (r ≤ 15)
+Small (resolved i x) = x < 65536
+Small nothing = Unit {0}
+
+answer-code : (a : Answer) → Small (said a) → Code (ofAnswer a .code)
+answer-code (answer.Resolved i x) h = value h
+answer-code answer.Nothing _ = value (omega arith)
+answer-code (answer.Refused r) (l, h) = refusal-code r l h refl
+
+-- the first check that applies, or what is given where none does
+checked-small : (A : Type 0) (cs : List Check) (state : A) (done : Result A) → Numbered cs → (lowest cs ≡ 0 → Small (done .reply)) → Small (checked cs state done .reply)
+checked-small A [] state done _ f = f refl
+checked-small A (c ∷ cs) state done (l, h, n) f = go (decided (c .applies)) (checked-small A cs state done n)
+  where
+    go : (c .applies ≡ true) ⊎ (c .applies ≡ false) → ((lowest cs ≡ 0 → Small (done .reply)) → Small (checked cs state done .reply))
+        → Small (checked (c ∷ cs) state done .reply)
+    go (inl a) ih = rw a (l, h)
+    go (inr a) ih = rw a (ih (λ z. f (rw a z)))
+
+least-le : (n : ℕ) (p : ℕ → Bool) → least n p ≤ n
+unfolding least
+least-le zero p = omega arith
+least-le (suc n) p = go (p 0) (least-le n (λ x. p (suc x)))
+  where
+    go : (b : Bool) → least n (λ x. p (suc x)) ≤ n → cond b 0 (suc (least n (λ x. p (suc x)))) ≤ suc n
+    go true h = omega arith
+    go false h = omega arith
+
+settle-small : (S : Semiautomaton) → S .n ≤ 64 → (k : ℕ) (X : ℕ → Bool) (fed : ℕ) (w : List ℕ) → Small (settle S k X fed w)
+unfolding settle soleAt
+settle-small S h k X fed w = due (ltb fed k)
+  where
+    p : ℕ → Bool
+    p = possible S X w (length w - k)
+
+    sole : (b : Bool) → Small (resolve (fed - k) (cond b (some (least (S .n) p)) none))
+    sole true = let l = least-le (S .n) p in omega arith
+    sole false = (omega arith, omega arith)
+
+    due : (b : Bool) → Small (cond b nothing (resolve (fed - k) (cond (eqb (size (S .n) p) 1) (some (least (S .n) p)) none)))
+    due true = tt
+    due false = sole (eqb (size (S .n) p) 1)
+
+module _ (table bytes : List ℕ) where
+  abbrev S : Semiautomaton
+  S = tableMeaning table
+
+  abbrev k : ℕ
+  k = lookaheadOf table
+
+  -- where 8 does not apply
+  settled-small : (cs : List Check) → lowest (tableCheck table ∷ cs) ≡ 0 → (X : ℕ → Bool) (fed : ℕ) (w : List ℕ) → Small (settle S k X fed w)
+  settled-small cs e = elim (decided (unfit table)) [
+    | inl u ↦ let z : _≡_ {A = ℕ} 8 0 = rw u at e in absurd (omega arith)
+    | inr u ↦ settle-small S (fitting table u .states) k
+  ]
+
+  pub opened-code : (a : Answer) (left : List ℕ) → Opens table bytes a left → Code (ofAnswer a .code)
+  unfolding openedOn opened
+  opened-code a left (e, _) = answer-code a (subst Small (sym e)
+      (checked-small _ (tableCheck table ∷ recordCheck table bytes ∷ []) bytes (onto k bytes (opened S k)) (omega arith, omega arith, (omega arith, omega arith, tt)) λ z.
+      checked-small _ (record { number = 13; applies = not (any (S .n) (S .initial)) } ∷ []) unopened (settled S k (S .initial) unopened 0 []) (omega arith, omega arith, tt) λ _.
+      settled-small (recordCheck table bytes ∷ []) z (S .initial) 0 []))
+
+  pub fed-code : (letter : ℕ) (a : Answer) (left : List ℕ) → Feeds table bytes letter a left → Code (ofAnswer a .code)
+  unfolding fedOn feed
+  fed-code letter a left (e, _) =
+      let r = decode bytes in
+      let w = r .held ++ (letter ∷ []) in
+      answer-code a (subst Small (sym e)
+      (checked-small _ (tableCheck table ∷ recordCheck table bytes ∷ tidyCheck table bytes ∷ []) bytes (onto k bytes (feed S k r letter))
+      (omega arith, omega arith, (omega arith, omega arith, (omega arith, omega arith, tt))) λ z.
+      checked-small _ (feedChecks S k r letter) r (settled S k (base S k r) r (suc (r .fed)) w)
+      (omega arith, omega arith, (omega arith, omega arith, (omega arith, omega arith, (omega arith, omega arith, tt)))) λ _.
+      settled-small (recordCheck table bytes ∷ tidyCheck table bytes ∷ []) z (base S k r) (suc (r .fed)) w))

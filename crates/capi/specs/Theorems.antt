@@ -1,0 +1,25 @@
+-- What follows of the promises for C: whatever a call is lent, it answers a value below 65,536, or 65,536 plus the number of a refusal.
+-- proofs/Theorems.antt has the proofs.
+-- Assumes nothing.
+use Prim.Native.Nat.{ℕ, _≤_, _<_}
+use mathlib.Core.Path.{_≡_}
+use mathlib.Core.List.{List}
+use Rattle.prepare.specs.Preparing.{Draws}
+use Rattle.capi.specs.Numbers.{refusing}
+use Rattle.capi.specs.Promises.{PassesReading, PassesPrepared, PassesCount, PassesCheck, PassesWalk, PassesVerdict, PassesOpening, PassesLetter, PassesEnding}
+
+pub data Code (r : ℕ) : Type 0 where
+  value : r < 65536 → Code r
+  refusal : (number : ℕ) → 1 ≤ number → number ≤ 15 → r ≡ refusing number → Code r
+
+pub record Theorems (r : ℕ) : Type 0 where
+  pub reading : (plan old counts : List ℕ) → PassesReading plan r old counts → Code r
+  pub preparing : (plan old table old′ letters old″ evidence : List ℕ) → PassesPrepared plan r old table old′ letters old″ evidence → Code r
+  pub counting : (plan old letters old′ evidence : List ℕ) → PassesCount plan r old letters old′ evidence → Code r
+  pub drawing : (plan : List ℕ) → Draws plan r → Code r
+  pub checking : (plan claim letters : List ℕ) → PassesCheck plan claim letters r → Code r
+  pub walking : (table word old sets old′ length : List ℕ) → PassesWalk table word r old sets old′ length → Code r
+  pub judging : (table : List ℕ) (state letter : ℕ) (word old sets : List ℕ) → PassesVerdict table state letter word r old sets → Code r
+  pub opening : (table old bytes old′ position : List ℕ) → PassesOpening table r old bytes old′ position → Code r
+  pub feeding : (table : List ℕ) (letter : ℕ) (old bytes old′ position : List ℕ) → PassesLetter table letter r old bytes old′ position → Code r
+  pub ending : (table bytes old sets : List ℕ) → PassesEnding table bytes r old sets → Code r
