@@ -1,9 +1,9 @@
 -- Record bytes follow the abstract record: a call on bytes that hold a record replies as the rule without bytes, and leaves bytes that hold
 -- the record that the rule leaves.
 -- Assumes nothing.
-use Prim.Native.Nat.{ℕ, _+_, _-_, _*_, _/_, _^_, _≤_, _<_}
-use mathlib.Core.Bool.{Bool, true, false, not}
-use mathlib.Core.Path.{_≡_, refl, sym, _∙_, ap}
+use Prim.Native.Nat.{ℕ, _+_, _-_, _^_, _≤_, _<_}
+use mathlib.Core.Bool.{true, false}
+use mathlib.Core.Path.{_≡_, refl, _∙_, ap}
 use mathlib.Core.List.{List, [], _∷_, _++_, map}
 use native.Mathlib.Omega.{arith}
 use lib.ListN.{length, drop, length-append, length-drop}
@@ -12,7 +12,7 @@ use Rattle.semiautomata.specs.Semiautomaton.{Semiautomaton, Within}
 use Rattle.semiautomata.specs.Predictability.{Predictable}
 use Rattle.semiautomata.specs.Calls.{Reply, refused, resolved, nothing, Result, replies}
 use Rattle.semiautomata.specs.PlainWalk.{limit, plainFeed}
-use Rattle.semiautomata.specs.Streaming.{Rec, settle, after, settled, opened, feed, feedChecks, base}
+use Rattle.semiautomata.specs.Streaming.{Rec, settled, opened, feed, feedChecks, base}
 use Rattle.semiautomata.proofs.Calls.{Outcome, refuses, passes, outcome}
 use Rattle.semiautomata.proofs.Streaming.{Follows, feed-agrees}
 use Rattle.table.specs.Table.{lookaheadOf, tableMeaning, unfit}

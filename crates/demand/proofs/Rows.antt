@@ -21,7 +21,7 @@ use Rattle.semiautomata.proofs.Levels.{with-and}
 use Rattle.semiautomata.proofs.Shares.{lookahead-unique, lookahead-predicts}
 use Rattle.semiautomata.proofs.Decide.{clash-out, clash-in, some-shorter, lookahead-first, some-witness, witness-unpredictable}
 use Rattle.semiautomata.proofs.Computed.{longest-unique}
-use Rattle.plan.specs.Bytes.{headerOf, meaning, refusal, WellFormed}
+use Rattle.plan.specs.Bytes.{meaning, refusal, WellFormed}
 use Rattle.plan.proofs.Refusals.{well-formed-within}
 use Rattle.prepare.specs.declared.Prepared.{Prepared}
 use Rattle.prepare.specs.Preparing.{Draws, refuses, looks-ahead}

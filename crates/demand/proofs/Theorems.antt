@@ -1,29 +1,29 @@
 -- The theorems of specs/Demand.antt.
 -- Assumes nothing.
-use Prim.Native.Nat.{ℕ, suc, _+_, _-_, _*_, _/_, _^_, _≤_, _<_}
-use mathlib.Core.Bool.{Bool, true, false, not}
+use Prim.Native.Nat.{ℕ, _+_, _-_, _^_, _≤_, _<_}
+use mathlib.Core.Bool.{true, false}
 use mathlib.Core.Path.{_≡_, refl, sym, _∙_, ap}
 use mathlib.Core.Logic.{inl, inr}
-use mathlib.Core.List.{List, [], _∷_, _++_, map}
+use mathlib.Core.List.{List, [], _∷_, map}
 use native.Mathlib.Omega.{arith}
 use native.Mathlib.Nat.{mul-le-mul-left, mul-le-mul-right}
-use lib.ListN.{length, drop}
+use lib.ListN.{length}
 use Rattle.semiautomata.specs.Semiautomaton.{Semiautomaton, Within}
 use Rattle.semiautomata.specs.Predictability.{Predictable, Lookahead}
-use Rattle.semiautomata.specs.Calls.{Reply, refused, resolved, nothing, Result, Check, checked}
+use Rattle.semiautomata.specs.Calls.{Reply, refused, resolved, nothing, Result, Check}
 use Rattle.semiautomata.specs.Demand3.{Demand3}
-use Rattle.semiautomata.specs.Streaming.{Rec, opened, feed, streamed}
+use Rattle.semiautomata.specs.Streaming.{opened, feed, streamed}
 use Rattle.semiautomata.proofs.Calls.{Among, Outcome, refuses, passes, outcome}
-use Rattle.semiautomata.proofs.Streaming.{Follows, opened-none, opened-some, opened-agrees, never-14}
+use Rattle.semiautomata.proofs.Streaming.{opened-none, opened-some, opened-agrees, never-14}
 use Rattle.semiautomata.proofs.Demand3 as demand
 use Rattle.plan.specs.Bytes.{meaning}
 use Rattle.table.specs.Table.{statesOf, lookaheadOf, tableMeaning, unfit}
 use Rattle.table.proofs.Fitness.{Fitting, fitting}
 use Rattle.predictor.specs.declared.Answer.{Answer}
-use Rattle.records.specs.Bytes.{heldFrom, decode, encode}
+use Rattle.records.specs.Bytes.{heldFrom, decode}
 use Rattle.predictor.specs.Replies.{said}
 use Rattle.predictor.specs.Calls.{written, onto, openedOn, fedOn, tableCheck, recordCheck, tidyCheck}
-use Rattle.demand.specs.Demand.{Made, Feeding, Walk, Theorems}
+use Rattle.demand.specs.Demand.{Made, Walk, Theorems}
 use Rattle.demand.proofs.Records.{Holds, Small, encode-holds, follows-small, opened-is, feeding-replies}
 
 -- a table that fits has a look-ahead that two bytes can count

@@ -5,7 +5,7 @@ use mathlib.Core.Bool.{true, false}
 use mathlib.Core.Path.{_≡_}
 use mathlib.Core.List.{List, [], _∷_, map}
 use lib.ListN.{length}
-use Rattle.semiautomata.specs.Calls.{Reply, refused}
+use Rattle.semiautomata.specs.Calls.{refused}
 use Rattle.semiautomata.specs.Demand3.{Demand3}
 use Rattle.plan.specs.Bytes.{meaning}
 use Rattle.prepare.specs.declared.Prepared.the-variants.{Ready}

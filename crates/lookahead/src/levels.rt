@@ -3,7 +3,7 @@
 use crate::rows;
 ghost use mathlib.Core.Bool.{true, false, not, _&&_};
 ghost use mathlib.Core.Path.{_≡_};
-ghost use Prim.Native.Nat.{ℕ, _*_, _^_, _≤_, _<_};
+ghost use Prim.Native.Nat.{_^_, _<_};
 ghost use lib.ListN.{length};
 ghost use Rattle.bitset.specs.Sets.{has, setOf};
 ghost use Rattle.semiautomata.specs.Predictability.{Lookahead};

@@ -1,18 +1,17 @@
 -- What the parts of a call promise: how a record is read and judged, what a letter does to the held letters, and what an answer leaves.
 -- Assumes nothing.
-use Prim.Native.Nat.{ℕ, suc, _+_, _-_, _<_, min}
+use Prim.Native.Nat.{ℕ, suc, _+_, _<_}
 use mathlib.Core.Bool.{Bool, true, false, not, cond, _&&_}
 use mathlib.Core.Path.{_≡_}
 use mathlib.Core.List.{List, [], _∷_, _++_, map}
-use lib.Dec.{eqb, ltb, leb}
-use lib.ListN.{take, drop}
+use lib.Dec.{eqb, ltb}
 use Rattle.bitset.specs.Sets.{size, least, has, setOf, single}
 use Rattle.semiautomata.specs.Semiautomaton.{Semiautomaton}
 use Rattle.semiautomata.specs.Walks.{reach}
 use Rattle.semiautomata.specs.Calls.{Reply, refused, resolved, nothing, Result, checked}
 use Rattle.semiautomata.specs.PlainWalk.{limit}
-use Rattle.semiautomata.specs.Streaming.{base, rules, every, latest, after, unopened, feed, finish}
-use Rattle.records.specs.Bytes.{heldFrom, decode, tidy, encode}
+use Rattle.semiautomata.specs.Streaming.{base, rules, every, after, unopened, feed, finish}
+use Rattle.records.specs.Bytes.{decode, tidy}
 use Rattle.predictor.specs.Calls.{written, onto}
 
 -- The base as a number.

@@ -1,7 +1,7 @@
 // From plan bytes to a look-ahead: preparing, the count call and the drawing program's entry.
 // The look-ahead itself is found by crate lookahead, from successor sets; here plans are read and loaded, and buffers judged.
 ghost use mathlib.Core.Path.{_≡_};
-ghost use Prim.Native.Nat.{ℕ, _*_};
+ghost use Prim.Native.Nat.{_*_};
 ghost use Rattle.plan.specs.Bytes.{headerOf, WellFormed};
 ghost use Rattle.prepare.specs.Preparing.{Prepares, CountsTo, Draws};
 use lookahead::Answer;

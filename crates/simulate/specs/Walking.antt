@@ -1,7 +1,7 @@
 -- Whole walks (document 01, Walks): refusals 8, 9, 12 and 13 in order, or g and the possible states at positions 0 to g.
 -- Assumes nothing.
 use Prim.Native.Nat.{ℕ, suc, _^_, _≤_, _<_}
-use mathlib.Core.Bool.{Bool, true, not}
+use mathlib.Core.Bool.{true, not}
 use mathlib.Core.Logic.{_↔_}
 use mathlib.Core.Path.{_≡_}
 use mathlib.Core.List.{List, [], _∷_}

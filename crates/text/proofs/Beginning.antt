@@ -2,16 +2,14 @@
 -- Assumes nothing.
 use Prim.Native.Nat.{ℕ, _+_, _*_, _≤_}
 use mathlib.Core.Bool.{Bool, true, false, _||_, true≢false}
-use mathlib.Core.Path.{_≡_, refl, _∙_}
-use mathlib.Core.Logic.{_⊎_, inl, inr}
+use mathlib.Core.Path.{_≡_, sym, refl, _∙_}
 use mathlib.Core.List.{List, [], _++_, append-assoc, append-nil}
 use native.Mathlib.Nat.{le-trans, mul-le-mul-left, mul-le-mul-right}
 use native.Mathlib.Omega.{arith}
-use lib.Dec.{eqb, ltb}
+use lib.Dec.{ltb}
 use lib.ListN.{length, length-append, List·getD-append}
 use lib.Seq.{take-append-le, drop-append-le}
-use borrow.Author.Tests.{le-ltb, ltb-false, eqb-true}
-use Rattle.bitset.proofs.Tests.{decided}
+use borrow.Author.Tests.{le-ltb, ltb-false}
 use Rattle.semiautomata.specs.Semiautomaton.{Semiautomaton}
 use Rattle.semiautomata.specs.Predictability.{Lookahead, Unpredictable}
 use Rattle.plan.specs.declared.Reading.the-variants.{Counts, Refused}

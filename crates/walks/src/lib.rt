@@ -105,8 +105,7 @@ pub fn survivors_of(sets: &[u64], n: usize, m: usize, set: u64, word: &[u8]) -> 
     survivors_with(sets, n, m, set, &word[..last], word[last] as usize)
 }
 
-// Stores what the first 0, 1, 2, .. letters of a word lead to from a set that is not empty, while that is not empty; answers how many
-// letters can be walked.
+// Stores what the first 0, 1, 2, .. letters lead to from a set that is not empty, as long as they lead somewhere; answers how many do.
 fn forward(sets: &[u64], n: usize, m: usize, set: u64, word: &[u8], out: &mut [u64]) -> usize
     requires { ⌜ Fit n m (now sets) × (set < 2 ^ n) × ¬ (set ≡ 0) × Letters m (now word) × (suc (length (now word)) ≤ length (now out)) ⌝ }
     ensures { λ g. ⌜ (g ≡ longest (successors n m set (now (sets .entry))) (now (word .entry))) × Written n (take g (now (word .entry))) (λ i. reach (successors n m 0 (now (sets .entry))) (has set) (take i (take g (now (word .entry))))) (now (out .entry)) (now (out .exit)) ⌝ }
@@ -138,8 +137,7 @@ fn backward(sets: &[u64], n: usize, m: usize, set: u64, word: &[u8], out: &mut [
     }
 }
 
-// The possible states at each position of the longest beginning of a word that can be walked from a set that is not empty; answers the
-// length of that beginning.
+// The possible states at each position of the longest beginning that can be walked from a set that is not empty; answers its length.
 pub fn trace(sets: &[u64], n: usize, m: usize, set: u64, word: &[u8], out: &mut [u64]) -> usize
     requires { ⌜ Fit n m (now sets) × (set < 2 ^ n) × ¬ (set ≡ 0) × Letters m (now word) × (suc (length (now word)) ≤ length (now out)) ⌝ }
     ensures { λ g. ⌜ (g ≡ longest (successors n m set (now (sets .entry))) (now (word .entry))) × ((starts : ℕ) → Written n (take g (now (word .entry))) (possible (successors n m starts (now (sets .entry))) (has set) (take g (now (word .entry)))) (now (out .entry)) (now (out .exit))) ⌝ }

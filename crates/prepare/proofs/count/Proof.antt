@@ -1,7 +1,6 @@
 -- `prepare::count` meets its contract.
 -- Assumes nothing.
 use mathlib.Core.Path.{refl, sym, _∙_}
-use native.Mathlib.Omega.{arith}
 use denote.Ref.{now}
 use Rattle.plan.proofs.Readings.{reading-counts, reading-refused}
 use Rattle.prepare.proofs.Refusals.{count-unwell}

@@ -1,11 +1,9 @@
 -- `prepare::gawherino_count` meets its contract.
 -- Assumes nothing.
-use mathlib.Core.Path.{refl, sym, _∙_}
 use native.Mathlib.Omega.{arith}
 use denote.Ref.{now}
 use Rattle.prepare.proofs.Theorems.{shown-never}
-use Rattle.plan.specs.Bytes.{meaning}
-use Rattle.prepare.specs.Preparing.{Draws, refuses, looks-ahead, never}
+use Rattle.prepare.specs.Preparing.{refuses, looks-ahead, never}
 use Rattle.prepare.proofs.Refusals.{count-passes, count-refuses}
 use Rattle.prepare.proofs.Answers.{small}
 use borrow.Author.Needs.{needs}

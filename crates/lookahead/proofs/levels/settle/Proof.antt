@@ -11,7 +11,6 @@ use borrow.Author.Needs.{needs}
 use borrow.Author.Tests.{not-true, not-false}
 use Rattle.semiautomata.specs.Semiautomaton.{Semiautomaton}
 use Rattle.semiautomata.specs.Successors.{successors}
-use Rattle.lookahead.specs.Rows.{Turned}
 use Rattle.lookahead.specs.Rivals.{Rivalry, Common}
 use Rattle.lookahead.proofs.Turning.{turned-fit}
 use Rattle.lookahead.proofs.Rounds.{Level, At, struck-fits, level-next, covers-next, level-repeats, round-early, some-clash, no-clash, clashed-next, lasting, at-first}
