@@ -8,21 +8,22 @@ use mathlib.Core.List.{List, [], _∷_, _++_}
 use native.Mathlib.Numerals.{add-one}
 use native.Mathlib.Omega.{arith}
 use lib.Dec.{eqb, ltb, leb}
-use lib.ListN.{length, take, drop}
+use lib.ListN.{length, take, drop, take-append-drop}
 use lib.Seq.{take-length, take-append-le, drop-append-le, drop-nil}
 use borrow.Author.Tests.{lt-ltb, le-ltb, le-leb, lt-leb, eqb-true, eqb-false, leb-false, ltb-true, ltb-false}
 use Rattle.bitset.specs.Sets.{any, size, has, setOf}
-use Rattle.bitset.proofs.Tests.{and-out, decided}
-use Rattle.bitset.proofs.Below.{any-none, size-cong, Sole, size-sole, least-sole}
-use Rattle.bitset.proofs.Bits.{has-empty, has-high, fits, some-member, setOf-lt, setOf-has, has-setOf, setOf-cong}
+use Rattle.bitset.proofs.Tests.{and-in, and-out, decided, same-test}
+use Rattle.bitset.proofs.Below.{any-out, any-none, size-cong, Sole, size-sole, least-sole}
+use Rattle.bitset.proofs.Bits.{has-empty, has-high, fits, some-member, setOf-lt, setOf-has, has-setOf, is-setOf, setOf-cong}
 use Rattle.bitset.proofs.Members.{ones-size}
-use Rattle.semiautomata.specs.Semiautomaton.{Semiautomaton}
+use Rattle.semiautomata.specs.Semiautomaton.{Semiautomaton, Within}
 use Rattle.semiautomata.specs.Walks.{spells, step, reach, survivors, walkable, possible}
 use Rattle.semiautomata.specs.Successors.{successors}
 use Rattle.semiautomata.specs.Calls.{Reply, refused, resolved, nothing, Check, checked}
 use Rattle.semiautomata.specs.PlainWalk.{limit}
 use Rattle.semiautomata.specs.Streaming.{Rec, base, sound, latest, soleAt, resolve, settle, after, unopened, opened, feed, feedChecks}
-use Rattle.semiautomata.proofs.Computed.{reach-append, walkable-reach}
+use Rattle.semiautomata.proofs.Computed.{reach-out, spells-in, reach-append, walkable-reach}
+use Rattle.semiautomata.proofs.Paths.{path-lt}
 use Rattle.semiautomata.proofs.Streaming.{length-snoc}
 use Rattle.walks.proofs.Steps.{reach-bare, step-members}
 use Rattle.walks.proofs.Words.{some-of, none-of, possible-last}
@@ -40,6 +41,24 @@ module _ (S : Semiautomaton) (X : ℕ → Bool) (u : List ℕ) (a : ℕ) where
       → out ≡ setOf (S .n) (possible S X (u ++ (a ∷ [])) i)
   unfolding possible
   due-set i h e d = d ∙ setOf-cong (S .n) _ _ (λ t g. rw (take-append-le i u (a ∷ []) h, drop-append-le i u (a ∷ []) h, e, has-setOf, lt-ltb t (S .n) g))
+
+  -- the only state that is reached before it can walk these, where some state can walk all letters
+  pub due-sole : Within S → ((s : ℕ) → X s ≡ true → s < S .n) → (i : ℕ) → i ≤ length u → {here next : ℕ} → here ≡ setOf (S .n) (reach S X (take i u)) → size (S .n) (has here) ≡ 1
+      → next ≡ setOf (S .n) (reach S X (u ++ (a ∷ []))) → ¬ (next ≡ 0) → here ≡ setOf (S .n) (possible S X (u ++ (a ∷ [])) i)
+  unfolding possible
+  due-sole W below i h {here} e one d z =
+      let w = u ++ (a ∷ []) in
+      let (t, _, r) = any-out (S .n) _ (some-of (S .n) (reach S X w) d z) in
+      let on : reach S (reach S X (take i w)) (drop i w) t ≡ true = rw (← reach-append S X (take i w) (drop i w), take-append-drop i w) r in
+      let (s, r, p) = reach-out S (reach S X (take i w)) (drop i w) t on in
+      let (x, from, q) = reach-out S X (take i w) s r in
+      let hs = path-lt S W (take i w) x s (below x from) q in
+      let (y, sole) = size-sole (S .n) (has here) one in
+      let is : (v : ℕ) → v < S .n → has here v ≡ reach S X (take i w) v = λ v g. rw (e, has-setOf, lt-ltb v (S .n) g, take-append-le i u (a ∷ []) h) in
+      let same : s ≡ y = sole .only s hs (is s hs ∙ r) in
+      is-setOf (S .n) _ here (rw e (setOf-lt (S .n) _)) λ v g. same-test _ _
+      (λ f. let v-is : v ≡ s = sole .only v g f ∙ sym same in and-in _ _ (sym (is v g) ∙ f) (rw v-is (spells-in S W (drop i w) s (t, p))))
+      (λ f. is v g ∙ and-out (reach S X (take i w) v) _ f .0)
 
   -- none follows it: what all letters lead to
   pub due-last : {next : ℕ} → next ≡ setOf (S .n) (reach S X (u ++ (a ∷ []))) → next ≡ setOf (S .n) (possible S X (u ++ (a ∷ [])) (suc (length u)))

@@ -81,7 +81,7 @@ fn due(
     letter: u8,
     next: u64,
 ) -> u64
-    requires { ⌜ Fit n m (now sets) × (base < 2 ^ n) × Letters m (now held) × (letter < m) × (k ≤ suc (length (now held))) × ((starts : ℕ) → next ≡ setOf n (reach (successors n m starts (now sets)) (has base) (now held ++ (letter ∷ [])))) ⌝ }
+    requires { ⌜ Fit n m (now sets) × (base < 2 ^ n) × Letters m (now held) × (letter < m) × (k ≤ suc (length (now held))) × ¬ (next ≡ 0) × ((starts : ℕ) → next ≡ setOf n (reach (successors n m starts (now sets)) (has base) (now held ++ (letter ∷ [])))) ⌝ }
     ensures { λ r. ⌜ ((starts : ℕ) → r ≡ setOf n (possible (successors n m starts (now (sets .entry))) (has base) (now (held .entry) ++ (letter ∷ [])) (suc (length (now (held .entry))) - k))) ⌝ }
 {
     if k == 0 {
@@ -89,6 +89,9 @@ fn due(
     }
     let i = held.len() + 1 - k;
     let here = walks::reach_by(sets, n, m, base, &held[..i]);
+    if u64::count_ones(here) == 1 {
+        return here; // the way that led to `next` goes on from it
+    }
     walks::survivors_with(sets, n, m, here, &held[i..], letter as usize)
 }
 

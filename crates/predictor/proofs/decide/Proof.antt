@@ -151,6 +151,7 @@ due-requires c κs =
       rw q (o .letters),
       below f,
       rw (q, o .long, o .keeps .held-is) (omega (arith, h .if5 .left, fed)),
+      h .before .if4 .left,
       λ starts. reached-from _ _ (s .args .starts) starts (s .args .sets .now) _ _ o (from-is (by s) _ (decode (s .args .rec .now)) (o .keeps .last-lt) (base .ensures) fed) q (next g),
     )
 

@@ -1,16 +1,19 @@
 -- `due` meets its contract.
 -- Assumes nothing.
-use Prim.Native.Nat.{ℕ, suc, _+_, _-_, _≤_}
-use mathlib.Core.Path.{_≡_, sym}
+use Prim.Native.Nat.{ℕ, suc, _+_, _-_, _^_, _≤_, _<_}
+use mathlib.Core.Path.{_≡_, sym, _∙_}
+use mathlib.Core.List.{[], _∷_, _++_}
 use native.Mathlib.Omega.{arith}
 use lib.ListN.{length, take, drop}
 use lib.Seq.{length-take-le}
 use Rattle.bitset.specs.Sets.{has}
-use Rattle.bitset.proofs.Bits.{setOf-lt}
+use Rattle.bitset.proofs.Bits.{has-lt, setOf-lt, setOf-cong}
+use Rattle.bitset.proofs.Members.{ones-size}
 use Rattle.semiautomata.specs.Successors.{successors}
+use Rattle.walks.proofs.Steps.{bare, bare-within, possible-bare}
 use Rattle.walks.proofs.Letters.{letters-take, letters-drop}
 use Rattle.records.proofs.Bytes.{part-whole}
-use Rattle.predictor.proofs.Judging.{due-set, due-last}
+use Rattle.predictor.proofs.Judging.{due-set, due-sole, due-last}
 use borrow.Author.Needs.{needs}
 use Rattle.predictor.proofs.due.Statement.{statement}
 use Rattle.predictor.proofs.due.Tie as tie
@@ -33,7 +36,7 @@ returns c starts =
     let s = c .before .before .before in
     let a = s .args in
     let z : suc (length (a .held .now)) - a .k ≡ suc (length (a .held .now)) = omega (arith, c .if1 .taken) in
-    rw z (due-last (successors (a .n) (a .m) starts (a .sets .now)) (has (a .base)) (a .held .now) (a .letter) (s .pre .5 starts))
+    rw z (due-last (successors (a .n) (a .m) starts (a .sets .now)) (has (a .base)) (a .held .now) (a .letter) (s .pre .6 starts))
 
 add-i : tie.Need-add-i
 add-i c = search needs
@@ -47,6 +50,18 @@ slice-aggregate-reach-by c = sym (length-take-le _ _ (inside (c .before)))
 reach-by-requires : tie.Need-reach-by-requires
 reach-by-requires c κs = let e = c .before in let p = start e .pre in (p .0, p .1, letters-take (position e) (p .2))
 
+returns-2 : tie.Need-returns-2
+returns-2 c starts =
+    let e = c .before .before .before in
+    let s = start e in
+    let a = s .args in
+    let here = c .before .reach-by .ensures 0 in
+    let fits : c .before .reach-by .result < 2 ^ a .n = rw here (setOf-lt (a .n) _) in
+    let sole = due-sole (bare (a .n) (a .m) (a .sets .now)) (has (a .base)) (a .held .now) (a .letter) (bare-within (s .pre .0)) (λ x f. has-lt (a .n) (a .base) x (s .pre .1) f)
+    (position e) (inside e) here (sym (ones-size (a .n) _ fits) ∙ c .if2 .taken) (s .pre .6 0) (s .pre .5) in
+    let z : suc (length (a .held .now)) - a .k ≡ position e = omega arith in
+    rw z (sole ∙ setOf-cong (a .n) _ _ (λ x _. sym (possible-bare (a .n) (a .m) starts (a .sets .now) (has (a .base)) (a .held .now ++ (a .letter ∷ [])) (position e) x)))
+
 sub-survivors-with : tie.Need-sub-survivors-with
 sub-survivors-with c = search needs
 
@@ -58,17 +73,17 @@ part-survivors-with-end c = search needs
 
 survivors-with-requires : tie.Need-survivors-with-requires
 survivors-with-requires c κs =
-    let e = c .before .before .before in
-    let s = start e in
-    (s .pre .0, rw (c .before .reach-by .ensures 0) (setOf-lt (s .args .n) _), rw (behind e) (letters-drop (position e) (s .pre .2)), s .pre .3)
-
-returns-2 : tie.Need-returns-2
-returns-2 c starts =
     let e = c .before .before .before .before in
+    let s = start e in
+    (s .pre .0, rw (c .before .before .reach-by .ensures 0) (setOf-lt (s .args .n) _), rw (behind e) (letters-drop (position e) (s .pre .2)), s .pre .3)
+
+returns-3 : tie.Need-returns-3
+returns-3 c starts =
+    let e = c .before .before .before .before .before in
     let a = start e .args in
     let z : suc (length (a .held .now)) - a .k ≡ position e = omega arith in
     rw z
-    (due-set (successors (a .n) (a .m) starts (a .sets .now)) (has (a .base)) (a .held .now) (a .letter) (position e) (inside e) (c .before .before .reach-by .ensures starts)
+    (due-set (successors (a .n) (a .m) starts (a .sets .now)) (has (a .base)) (a .held .now) (a .letter) (position e) (inside e) (c .before .before .before .reach-by .ensures starts)
     (rw (behind e) at (c .survivors-with .ensures starts)))
 
 pub due-spec : {M : Type 1} → statement M
@@ -80,8 +95,9 @@ due-spec =
     sub-i
     slice-aggregate-reach-by
     reach-by-requires
+    returns-2
     sub-survivors-with
     part-survivors-with-start
     part-survivors-with-end
     survivors-with-requires
-    returns-2)
+    returns-3)
