@@ -2,6 +2,7 @@
 -- Assumes nothing.
 use Prim.Native.Nat.{ℕ, suc, _+_, _-_, _≤_, _<_, min, zero-le}
 use mathlib.Core.Bool.{Bool, true, false, cond}
+use mathlib.Core.Option.{some, Option·none-ne-some, Option·some-injective}
 use mathlib.Core.Path.{_≡_, refl, sym, _∙_, ap, fun-ext}
 use mathlib.Core.Logic.{_⊎_, inl, inr}
 use mathlib.Core.List.{List, [], _∷_, _++_, append-nil}
@@ -14,7 +15,7 @@ use lib.Seq.{drop-append-le, drop-drop}
 use borrow.Author.Tests.{ltb-true, ltb-false, lt-ltb, le-ltb, le-leb, ne-eqb, leb-true, leb-false, eqb-true, eq-eqb, not-false}
 use Rattle.bitset.specs.Sets.{size, single}
 use Rattle.bitset.proofs.Tests.{and-out, decided, same-test}
-use Rattle.bitset.proofs.Below.{any-in, any-none, size-two, Sole, sole-size, least-sole}
+use Rattle.bitset.proofs.Below.{any-in, any-none, size-two, Sole, sole-size, size-sole, least-sole}
 use Rattle.semiautomata.specs.Semiautomaton.{Semiautomaton, Within}
 use Rattle.semiautomata.specs.Predictability.{initial, SetPredictable, Predictable}
 use Rattle.semiautomata.specs.Walks.{Walkable, OnPlan, Possible, Only, walkable, possible}
@@ -35,6 +36,35 @@ empty-walked S s e = record { start = s; from-it = e; spells = (s, refl) }
 pub opened-none : (S : Semiautomaton) (k : ℕ) → ((s : ℕ) → S .initial s ≡ false) → opened S k .reply ≡ refused 13
 unfolding opened
 opened-none S k h = rw (any-none (S .n) (S .initial) (λ s _. h s))
+
+-- THE ONE POSSIBLE STATE
+
+pub sole-at : (S : Semiautomaton) (X : ℕ → Bool) (w : List ℕ) (i x : ℕ) → Sole (S .n) (possible S X w i) x → soleAt S X w i ≡ some x
+unfolding soleAt
+sole-at S X w i x s = rw (sole-size (S .n) (possible S X w i) x s, least-sole (S .n) (possible S X w i) x s)
+
+pub at-sole : (S : Semiautomaton) (X : ℕ → Bool) (w : List ℕ) (i x : ℕ) → soleAt S X w i ≡ some x → Sole (S .n) (possible S X w i) x
+unfolding soleAt
+at-sole S X w i x e = go (decided (eqb (size (S .n) (possible S X w i)) 1))
+  where
+    go : (eqb (size (S .n) (possible S X w i)) 1 ≡ true) ⊎ (eqb (size (S .n) (possible S X w i)) 1 ≡ false) → Sole (S .n) (possible S X w i) x
+    go (inr q) = absurd (Option·none-ne-some x (rw (soleAt, q) at e))
+    go (inl q) =
+        let (y, s) = size-sole (S .n) (possible S X w i) (eqb-true _ _ q) in
+        rw (← Option·some-injective y x (rw (soleAt, q, least-sole (S .n) (possible S X w i) y s) at e)) s
+
+module _ (S : Semiautomaton) (W : Within S) (X : ℕ → Bool) (below : (s : ℕ) → X s ≡ true → s < S .n) (w : List ℕ) (i x : ℕ) where
+  pub sole-out : soleAt S X w i ≡ some x → Possible S X w i x × ((y : ℕ) → Possible S X w i y → y ≡ x)
+  sole-out e =
+      let s = at-sole S X w i x e in
+      (possible-out S X w i x (s .member), λ y c. s .only y (possible-lt S X W below c) (possible-in S W X w i y c))
+
+  pub sole-in : Possible S X w i x × ((y : ℕ) → Possible S X w i y → y ≡ x) → soleAt S X w i ≡ some x
+  sole-in (c, only) = sole-at S X w i x (record {
+    below = possible-lt S X W below c;
+    member = possible-in S W X w i x c;
+    only = λ y _ e. only y (possible-out S X w i y e);
+  })
 
 -- two possible states where a position is due are refused with 14
 pub settle-14 : (S : Semiautomaton) → Within S → (X : ℕ → Bool) → ((s : ℕ) → X s ≡ true → s < S .n) → (k fed : ℕ) → k ≤ fed → (w : List ℕ) (x y : ℕ) → ¬ (x ≡ y)
@@ -148,7 +178,7 @@ module _ (S : Semiautomaton) (W : Within S) (k : ℕ) (P : Predictable S k) wher
   settled-agrees : (X : ℕ → Bool) (old : Rec) (fed : ℕ) (u w : List ℕ) → fed ≡ length w → latest k u ≡ latest k w
       → possible S X u (length u - k) ≡ possible S (S .initial) w (length w - k) → (length w < k → old .last ≡ 255) → length w ≤ limit → OnPlan S w
       → Agree Follows (settled S k X old fed u) (record { reply = plainReply S k w; state = w })
-  unfolding settle soleAt plainReply stateAt
+  unfolding settle plainReply stateAt
   settled-agrees X old fed u w l held same last room o = go (decided (ltb (length w) k))
     where
       go : (ltb (length w) k ≡ true) ⊎ (ltb (length w) k ≡ false) → Agree Follows (settled S k X old fed u) (record { reply = plainReply S k w; state = w })
@@ -158,9 +188,9 @@ module _ (S : Semiautomaton) (W : Within S) (k : ℕ) (P : Predictable S k) wher
       go (inr e) =
           let le : k ≤ length w = ltb-false (length w) k e in
           let (x, c, s) = sole-possible (S .initial) (W .initial-lt) initial-predictable w (length w - k) o (omega arith) in
-          let one = sole-size (S .n) (possible S (S .initial) w (length w - k)) x s in
+          let one : soleAt S X u (length u - k) ≡ some x = sole-at S X u (length u - k) x (rw same s) in
           let is = least-sole (S .n) (possible S (S .initial) w (length w - k)) x s in
-          rw (l, settle, e, same, soleAt, one, is) (record { reply = refl; state = record { fed-are = refl; held-are = held; last-none = λ h. absurd (omega arith); last-is = λ _. c; room = room; walked = o } })
+          rw (l, settle, e, one, is) (record { reply = refl; state = record { fed-are = refl; held-are = held; last-none = λ h. absurd (omega arith); last-is = λ _. c; room = room; walked = o } })
 
   pub feed-agrees : (r : Rec) (w : List ℕ) (a : ℕ) → Follows r w → Agree Follows (feed S k r a) (plainFeed S k w a)
   unfolding feed plainFeed
@@ -226,7 +256,7 @@ module _ (S : Semiautomaton) (W : Within S) (k : ℕ) (P : Predictable S k) wher
       )
 
   settle-not-14 : (r : Rec) (w : List ℕ) → Regular r → length w ≡ suc (length (r .held)) → Walkable S (base S k r) w → ¬ (settle S k (base S k r) (suc (r .fed)) w ≡ refused 14)
-  unfolding settle soleAt
+  unfolding settle
   settle-not-14 r w g l o e = go (decided (ltb (suc (r .fed)) k))
     where
       go : (ltb (suc (r .fed)) k ≡ true) ⊎ (ltb (suc (r .fed)) k ≡ false) → ⊥
@@ -235,7 +265,7 @@ module _ (S : Semiautomaton) (W : Within S) (k : ℕ) (P : Predictable S k) wher
           let late : k ≤ suc (r .fed) = ltb-false _ _ q in
           let (below, pred) = base-good r g in
           let (x, _, s) = sole-possible (base S k r) below pred w (length w - k) o (omega arith) in
-          let y = rw (settle, q, soleAt, sole-size (S .n) (possible S (base S k r) w (length w - k)) x s) at e in
+          let y = rw (settle, q, sole-at S (base S k r) w (length w - k) x s) at e in
           let z : _≡_ {A = ℕ} 0 1 = cc in omega arith
 
   pub never-14 : (r : Rec) (a : ℕ) → ¬ (feed S k r a .reply ≡ refused 14)

@@ -49,6 +49,7 @@ theorems S = record {
   maximal-is = λ W X below w t. (verdicts.maximal-out S W X below w t, verdicts.maximal-in S W X below w t);
   opening-refused = streaming.opened-none S;
   opening-taken = λ W k P s e r. streaming.opened-some S W k P s e r;
+  sole-is = λ W X below w i x. (streaming.sole-out S W X below w i x, streaming.sole-in S W X below w i x);
   never-14 = streaming.never-14 S;
   when-14 = streaming.settle-14 S;
   as-plain = streaming.streamed-plain S;

@@ -2,6 +2,7 @@
 -- Assumes nothing.
 use Prim.Native.Nat.{ℕ, _+_, _-_, _*_, _/_, _≤_, _<_}
 use mathlib.Core.Bool.{Bool, true, false}
+use mathlib.Core.Option.{some}
 use mathlib.Core.Path.{_≡_}
 use mathlib.Core.Logic.{_⊎_, _↔_}
 use mathlib.Core.List.{List, _++_}
@@ -14,7 +15,7 @@ use Rattle.semiautomata.specs.Selectors.{Survives, Selector, MinimalSele
 use Rattle.semiautomata.specs.Calls.{refused}
 use Rattle.semiautomata.specs.PlainWalk.{stateAt, plain, plainTaken}
 use Rattle.semiautomata.specs.Demand3.{Only11to13, Demand3}
-use Rattle.semiautomata.specs.Streaming.{Rec, settle, opened, feed, unresolved, finish, streamed, recordAfter}
+use Rattle.semiautomata.specs.Streaming.{Rec, soleAt, settle, opened, feed, unresolved, finish, streamed, recordAfter}
 
 -- X is a set of states of S.
 abbrev pub Below : Semiautomaton → (ℕ → Bool) → Type 0
@@ -75,6 +76,9 @@ pub record Theorems (S : Semiautomaton) : Type 0 where
   -- opening is refused exactly if there is no initial state
   pub opening-refused : (k : ℕ) → ((s : ℕ) → S .initial s ≡ false) → opened S k .reply ≡ refused 13
   pub opening-taken : Within S → (k : ℕ) → Predictable S k → (s : ℕ) → S .initial s ≡ true → (r : ℕ) → ¬ (opened S k .reply ≡ refused r)
+  -- what is resolved is the one possible state: it is possible, and no other is
+  pub sole-is : Within S → (X : ℕ → Bool) → Below S X → (w : List ℕ) (i x : ℕ)
+      → (soleAt S X w i ≡ some x) ↔ (Possible S X w i x × ((y : ℕ) → Possible S X w i y → y ≡ x))
   -- 14 is met on no record at all; with another k it is met where two states are possible at the position that is due
   pub never-14 : Within S → (k : ℕ) → Predictable S k → (r : Rec) (a : ℕ) → ¬ (feed S k r a .reply ≡ refused 14)
   pub when-14 : Within S → (X : ℕ → Bool) → Below S X → (k fed : ℕ) → k ≤ fed → (w : List ℕ) (x y : ℕ) → ¬ (x ≡ y)
