@@ -59,12 +59,11 @@ module _ (S : Semiautomaton) (W : Within S) (X : ℕ → Bool) (below : (s : ℕ
       let s = at-sole S X w i x e in
       (possible-out S X w i x (s .member), λ y c. s .only y (possible-lt S X W below c) (possible-in S W X w i y c))
 
+  possible-sole : Possible S X w i x → ((y : ℕ) → Possible S X w i y → y ≡ x) → Sole (S .n) (possible S X w i) x
+  possible-sole c only = record { below = possible-lt S X W below c; member = possible-in S W X w i x c; only = λ y _ e. only y (possible-out S X w i y e) }
+
   pub sole-in : Possible S X w i x × ((y : ℕ) → Possible S X w i y → y ≡ x) → soleAt S X w i ≡ some x
-  sole-in (c, only) = sole-at S X w i x (record {
-    below = possible-lt S X W below c;
-    member = possible-in S W X w i x c;
-    only = λ y _ e. only y (possible-out S X w i y e);
-  })
+  sole-in (c, only) = sole-at S X w i x (possible-sole c only)
 
 -- two possible states where a position is due are refused with 14
 pub settle-14 : (S : Semiautomaton) → Within S → (X : ℕ → Bool) → ((s : ℕ) → X s ≡ true → s < S .n) → (k fed : ℕ) → k ≤ fed → (w : List ℕ) (x y : ℕ) → ¬ (x ≡ y)
@@ -80,15 +79,8 @@ module _ (S : Semiautomaton) (W : Within S) (k : ℕ) (P : Predictable S k) wher
   module _ (X : ℕ → Bool) (below : (s : ℕ) → X s ≡ true → s < S .n) (q : SetPredictable S X k) where
     pub sole-possible : (w : List ℕ) (i : ℕ) → Walkable S X w → i + k ≤ length w → (x : ℕ) × Possible S X w i x × Sole (S .n) (possible S X w i) x
     sole-possible w i o h =
-        let (x, c) = some-possible S X w i o in (
-          x,
-          c,
-          record {
-            below = possible-lt S X W below c;
-            member = possible-in S W X w i x c;
-            only = λ y _ e. possible-unique S X k q P w i y x h (possible-out S X w i y e) c;
-          },
-        )
+        let (x, c) = some-possible S X w i o in
+        (x, c, possible-sole S W X below w i x c (λ y d. possible-unique S X k q P w i y x h d c))
 
   initial-predictable : SetPredictable S (S .initial) k
   initial-predictable = P initial tt
