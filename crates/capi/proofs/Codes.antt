@@ -1,26 +1,26 @@
 -- The numbers of answers: refusals are 1 to 15, and values are small.
 -- Assumes nothing.
-use Prim.Native.Nat.{ℕ, zero, suc, _-_, _≤_, _<_}
+use Prim.Native.Nat.{ℕ, suc, _-_, _≤_, _<_}
 use mathlib.Core.Bool.{Bool, true, false, cond, not, _||_}
-use mathlib.Core.Option.{some, none}
+use mathlib.Core.Option.{Option, some, none}
 use mathlib.Core.Path.{_≡_, refl, sym, subst}
 use mathlib.Core.Logic.{_⊎_, inl, inr}
 use mathlib.Core.List.{List, [], _∷_, _++_}
 use native.Mathlib.Omega.{arith}
-use lib.Dec.{eqb, ltb}
+use lib.Dec.{ltb}
 use lib.ListN.{length}
-use Rattle.bitset.specs.Sets.{any, size, least}
+use Rattle.bitset.specs.Sets.{any}
 use Rattle.bitset.proofs.Tests.{decided}
 use Rattle.semiautomata.specs.Semiautomaton.{Semiautomaton}
-use Rattle.semiautomata.specs.Walks.{possible}
 use Rattle.semiautomata.specs.Calls.{Reply, refused, resolved, nothing, Result, Check, checked, lowest}
 use Rattle.semiautomata.specs.Streaming.{base, soleAt, resolve, settle, settled, unopened, opened, feedChecks, feed}
+use Rattle.semiautomata.proofs.Streaming.{at-sole}
 use Rattle.plan.specs.Bytes.{planChecks, refusal, reading}
 use Rattle.plan.specs.declared.Reading.{Reading}
 use Rattle.plan.specs.declared.Reading.the-variants as read
 use Rattle.plan.proofs.Refusals.{well-formed-range}
 use Rattle.plan.proofs.Readings.{reading-refused, reading-counts}
-use Rattle.table.specs.Table.{lookaheadOf, tableMeaning, unfit}
+use Rattle.table.specs.Table.{statesOf, lookaheadOf, tableMeaning, unfit}
 use Rattle.table.proofs.Fitness.{fitting}
 use Rattle.prepare.specs.declared.Prepared.{Prepared}
 use Rattle.prepare.specs.declared.Prepared.the-variants.{Ready, Refused, Unpredictable}
@@ -145,49 +145,38 @@ ended-code table bytes old out (ended.Refused r) (e, z, _) =
 
 -- REPLIES
 
-abbrev Small : Reply → Type 0
-Small (refused r) = (1 ≤ r) × (r ≤ 15)
-Small (resolved i x) = x < 65536
-Small nothing = Unit {0}
+-- a refusal's number, or one of n states, at most 64
+abbrev pub Small : ℕ → Reply → Type 0
+Small n (refused r) = (1 ≤ r) × (r ≤ 15)
+Small n (resolved i x) = (x < n) × (n ≤ 64)
+Small n nothing = Unit {0}
 
-answer-code : (a : Answer) → Small (said a) → Code (ofAnswer a .code)
-answer-code (answer.Resolved i x) h = value h
-answer-code answer.Nothing _ = value (omega arith)
-answer-code (answer.Refused r) (l, h) = refusal-code r l h refl
+answer-code : (n : ℕ) (a : Answer) → Small n (said a) → Code (ofAnswer a .code)
+answer-code n (answer.Resolved i x) (l, h) = value (omega arith)
+answer-code n answer.Nothing _ = value (omega arith)
+answer-code n (answer.Refused r) (l, h) = refusal-code r l h refl
 
 -- the first check that applies, or what is given where none does
-checked-small : (A : Type 0) (cs : List Check) (state : A) (done : Result A) → Numbered cs → (lowest cs ≡ 0 → Small (done .reply)) → Small (checked cs state done .reply)
-checked-small A [] state done _ f = f refl
-checked-small A (c ∷ cs) state done (l, h, n) f = go (decided (c .applies)) (checked-small A cs state done n)
+checked-small : (n : ℕ) (A : Type 0) (cs : List Check) (state : A) (done : Result A) → Numbered cs → (lowest cs ≡ 0 → Small n (done .reply)) → Small n (checked cs state done .reply)
+checked-small n A [] state done _ f = f refl
+checked-small n A (c ∷ cs) state done (l, h, m) f = go (decided (c .applies)) (checked-small n A cs state done m)
   where
-    go : (c .applies ≡ true) ⊎ (c .applies ≡ false) → ((lowest cs ≡ 0 → Small (done .reply)) → Small (checked cs state done .reply))
-        → Small (checked (c ∷ cs) state done .reply)
+    go : (c .applies ≡ true) ⊎ (c .applies ≡ false) → ((lowest cs ≡ 0 → Small n (done .reply)) → Small n (checked cs state done .reply))
+        → Small n (checked (c ∷ cs) state done .reply)
     go (inl a) ih = rw a (l, h)
     go (inr a) ih = rw a (ih (λ z. f (rw a z)))
 
-least-le : (n : ℕ) (p : ℕ → Bool) → least n p ≤ n
-unfolding least
-least-le zero p = omega arith
-least-le (suc n) p = go (p 0) (least-le n (λ x. p (suc x)))
-  where
-    go : (b : Bool) → least n (λ x. p (suc x)) ≤ n → cond b 0 (suc (least n (λ x. p (suc x)))) ≤ suc n
-    go true h = omega arith
-    go false h = omega arith
-
-settle-small : (S : Semiautomaton) → S .n ≤ 64 → (k : ℕ) (X : ℕ → Bool) (fed : ℕ) (w : List ℕ) → Small (settle S k X fed w)
-unfolding settle soleAt
+settle-small : (S : Semiautomaton) → S .n ≤ 64 → (k : ℕ) (X : ℕ → Bool) (fed : ℕ) (w : List ℕ) → Small (S .n) (settle S k X fed w)
+unfolding settle
 settle-small S h k X fed w = due (ltb fed k)
   where
-    p : ℕ → Bool
-    p = possible S X w (length w - k)
+    sole : (o : Option ℕ) → soleAt S X w (length w - k) ≡ o → Small (S .n) (resolve (fed - k) o)
+    sole (some x) e = (at-sole S X w (length w - k) x e .below, h)
+    sole none e = (omega arith, omega arith)
 
-    sole : (b : Bool) → Small (resolve (fed - k) (cond b (some (least (S .n) p)) none))
-    sole true = let l = least-le (S .n) p in omega arith
-    sole false = (omega arith, omega arith)
-
-    due : (b : Bool) → Small (cond b nothing (resolve (fed - k) (cond (eqb (size (S .n) p) 1) (some (least (S .n) p)) none)))
+    due : (b : Bool) → Small (S .n) (cond b nothing (resolve (fed - k) (soleAt S X w (length w - k))))
     due true = tt
-    due false = sole (eqb (size (S .n) p) 1)
+    due false = sole (soleAt S X w (length w - k)) refl
 
 module _ (table bytes : List ℕ) where
   abbrev S : Semiautomaton
@@ -196,28 +185,37 @@ module _ (table bytes : List ℕ) where
   abbrev k : ℕ
   k = lookaheadOf table
 
+  abbrev n : ℕ
+  n = statesOf table
+
   -- where 8 does not apply
-  settled-small : (cs : List Check) → lowest (tableCheck table ∷ cs) ≡ 0 → (X : ℕ → Bool) (fed : ℕ) (w : List ℕ) → Small (settle S k X fed w)
+  settled-small : (cs : List Check) → lowest (tableCheck table ∷ cs) ≡ 0 → (X : ℕ → Bool) (fed : ℕ) (w : List ℕ) → Small n (settle S k X fed w)
   settled-small cs e = elim (decided (unfit table)) [
     | inl u ↦ let z : _≡_ {A = ℕ} 8 0 = rw u at e in absurd (omega arith)
     | inr u ↦ settle-small S (fitting table u .states) k
   ]
 
-  pub opened-code : (a : Answer) (left : List ℕ) → Opens table bytes a left → Code (ofAnswer a .code)
+  pub opened-small : (a : Answer) (left : List ℕ) → Opens table bytes a left → Small n (said a)
   unfolding openedOn opened
-  opened-code a left (e, _) = answer-code a (subst Small (sym e)
-      (checked-small _ (tableCheck table ∷ recordCheck table bytes ∷ []) bytes (onto k bytes (opened S k)) (omega arith, omega arith, (omega arith, omega arith, tt)) λ z.
-      checked-small _ (record { number = 13; applies = not (any (S .n) (S .initial)) } ∷ []) unopened (settled S k (S .initial) unopened 0 []) (omega arith, omega arith, tt) λ _.
-      settled-small (recordCheck table bytes ∷ []) z (S .initial) 0 []))
+  opened-small a left (e, _) = subst (Small n) (sym e)
+      (checked-small n _ (tableCheck table ∷ recordCheck table bytes ∷ []) bytes (onto k bytes (opened S k)) (omega arith, omega arith, (omega arith, omega arith, tt)) λ z.
+      checked-small n _ (record { number = 13; applies = not (any (S .n) (S .initial)) } ∷ []) unopened (settled S k (S .initial) unopened 0 []) (omega arith, omega arith, tt) λ _.
+      settled-small (recordCheck table bytes ∷ []) z (S .initial) 0 [])
 
-  pub fed-code : (letter : ℕ) (a : Answer) (left : List ℕ) → Feeds table bytes letter a left → Code (ofAnswer a .code)
+  pub fed-small : (letter : ℕ) (a : Answer) (left : List ℕ) → Feeds table bytes letter a left → Small n (said a)
   unfolding fedOn feed
-  fed-code letter a left (e, _) =
+  fed-small letter a left (e, _) =
       let r = decode bytes in
       let w = r .held ++ (letter ∷ []) in
-      answer-code a (subst Small (sym e)
-      (checked-small _ (tableCheck table ∷ recordCheck table bytes ∷ tidyCheck table bytes ∷ []) bytes (onto k bytes (feed S k r letter))
+      subst (Small n) (sym e)
+      (checked-small n _ (tableCheck table ∷ recordCheck table bytes ∷ tidyCheck table bytes ∷ []) bytes (onto k bytes (feed S k r letter))
       (omega arith, omega arith, (omega arith, omega arith, (omega arith, omega arith, tt))) λ z.
-      checked-small _ (feedChecks S k r letter) r (settled S k (base S k r) r (suc (r .fed)) w)
+      checked-small n _ (feedChecks S k r letter) r (settled S k (base S k r) r (suc (r .fed)) w)
       (omega arith, omega arith, (omega arith, omega arith, (omega arith, omega arith, (omega arith, omega arith, tt)))) λ _.
-      settled-small (recordCheck table bytes ∷ tidyCheck table bytes ∷ []) z (base S k r) (suc (r .fed)) w))
+      settled-small (recordCheck table bytes ∷ tidyCheck table bytes ∷ []) z (base S k r) (suc (r .fed)) w)
+
+  pub opened-code : (a : Answer) (left : List ℕ) → Opens table bytes a left → Code (ofAnswer a .code)
+  opened-code a left o = answer-code n a (opened-small a left o)
+
+  pub fed-code : (letter : ℕ) (a : Answer) (left : List ℕ) → Feeds table bytes letter a left → Code (ofAnswer a .code)
+  fed-code letter a left f = answer-code n a (fed-small letter a left f)

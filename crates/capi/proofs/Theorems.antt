@@ -6,9 +6,10 @@ use mathlib.Core.List.{List, []}
 use native.Mathlib.Omega.{arith}
 use Rattle.prepare.specs.Preparing.{Draws, refuses, looks-ahead, never}
 use Rattle.prepare.proofs.Answers.{small}
+use Rattle.predictor.specs.declared.Answer.the-variants.{Resolved}
 use Rattle.capi.specs.Promises.{claimOf}
 use Rattle.capi.specs.Theorems.{Code, value, refusal as refusal-code, Theorems}
-use Rattle.capi.proofs.Codes.{gives-code, plan-numbered, unread-code, reading-code, prepared-code, counted-code, checked-code, walked-code, judged-code, opened-code, fed-code, ended-code}
+use Rattle.capi.proofs.Codes.{gives-code, plan-numbered, unread-code, reading-code, prepared-code, counted-code, checked-code, walked-code, judged-code, opened-small, fed-small, opened-code, fed-code, ended-code}
 
 drawn : (plan : List ℕ) {r : ℕ} → Draws plan r → Code r
 drawn plan (refuses n) = unread-code plan refl n
@@ -27,4 +28,6 @@ theorems r = record {
   opening = λ table old bytes old′ position. gives-code (omega arith, omega arith, tt) (λ a. opened-code table old a bytes);
   feeding = λ table letter old bytes old′ position. gives-code (omega arith, omega arith, tt) (λ a. fed-code table old letter a bytes);
   ending = λ table bytes old sets p. rw (p .passed .answered) (ended-code table bytes old sets (p .answer) (p .meets));
+  opened-below = λ table bytes i x. opened-small table bytes (Resolved i x);
+  fed-below = λ table bytes letter i x. fed-small table bytes letter (Resolved i x);
 }
