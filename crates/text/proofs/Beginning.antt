@@ -23,7 +23,7 @@ use Rattle.text.specs.declared.Printed.{Printed}
 use Rattle.text.specs.declared.Printed.the-variants.{Going, Ended, Short}
 use Rattle.text.specs.Lines.{countsLine, lookaheadLine, refusedLine, Appended}
 use Rattle.text.specs.Report.{totalOf, planOf, lettersOf, noPlan, countsOf, AfterLookahead, AfterCounts, never, predicts, Reports, no-plan, ill-formed, well-formed}
-use Rattle.text.specs.Calls.{tableSize, Laid, Lays, ReportText, Begins}
+use Rattle.text.specs.Calls.{tableSize, Laid, Lays, over, Leaves, read, ReportText, Roomy, Begins}
 use Rattle.text.proofs.Lines.{appended-on}
 
 -- a line before what follows
@@ -126,10 +126,11 @@ module _ (input : List ℕ) {old : List ℕ} where
 
   module _ (e : noPlan input ≡ false) where
     pub begun-ill : (number : ℕ) → Refused number ≡ reading (planOf input) → {r : ℕ} {out : List ℕ} → Appended old 0 (refusedLine number) r out
-        → Laid (ReportText input) old 0 r out (λ rest. [])
+        → ¬ WellFormed (planOf input) × Laid (ReportText input) old 0 r out (λ rest. [])
     begun-ill number d p =
         let (is, n) = reading-refused (planOf input) (sym d) in
-        lays-last (ReportText input) p (λ rest _. rw is (report-ill input e rest (λ w. n (is ∙ w))))
+        let ill : ¬ WellFormed (planOf input) = λ w. n (is ∙ w) in
+        (ill, lays-last (ReportText input) p (λ rest _. rw is (report-ill input e rest ill)))
 
     module _ {n m s l : ℕ} (d : Counts n m s l ≡ reading (planOf input)) {at : ℕ} {mid : List ℕ} (p : Appended old 0 (countsLine n m s l) at mid) where
       begun : {r : ℕ} {out : List ℕ} {later : List ℕ → List ℕ} → Laid (AfterCounts (meaning (planOf input))) mid at r out later
@@ -144,8 +145,8 @@ module _ (input : List ℕ) {old : List ℕ} where
                 (report-well input e rest w (a .text ++ later (lettersOf input ++ rest)) (a .follows (lettersOf input ++ rest)));
           }
 
-      pub begun-well : (printed : Printed) (table bytes table′ left out : List ℕ) → Lays (AfterCounts (meaning (planOf input))) mid at printed out table′ left
-          → Begins input table bytes printed table′ left old out
-      begun-well (Going q) table bytes table′ left out a = begun a
-      begun-well (Ended q) table bytes table′ left out a = begun a
-      begun-well Short table bytes table′ left out a = absurd a
+      pub begun-well : (printed : Printed) (table bytes table′ left out : List ℕ) → Roomy table bytes old → Lays (AfterCounts (meaning (planOf input))) mid at printed out table′ left
+          → Leaves (meaning (planOf input)) table bytes (over printed) table′ left → Begins input table bytes printed table′ left old out
+      begun-well (Going q) table bytes table′ left out lent a l = (lent, read e (read-well (planOf input) d) l, begun a)
+      begun-well (Ended q) table bytes table′ left out lent a l = (lent, read e (read-well (planOf input) d) l, begun a)
+      begun-well Short table bytes table′ left out lent a l = absurd a

@@ -30,9 +30,9 @@ written {old} {text} {r} p = rw (p .is) (take-at text (drop (0 + length text) ol
 
 walked-text : {table bytes letters text : List ℕ} → Walked table bytes letters text → walkOn table bytes letters ≡ text
 unfolding walkText
-walked-text (ends _ _ _ _ f) = sym (written f)
-walked-text (goes _ _ _ rest _ _ _ _ f w) = f .follows rest ∙ rw (written (f .put), walked-text w)
-walked-text (stops _ _ _ rest _ _ _ _ _ _ f g) = f .follows rest ∙ rw (written (f .put), written g)
+walked-text (ends _ _ _ _ f) = sym (written (f .1))
+walked-text (goes _ _ _ rest _ _ _ _ f w) = f .2 .follows rest ∙ rw (written (f .2 .put), walked-text w)
+walked-text (stops _ _ _ rest _ _ _ _ _ _ f g) = f .2 .follows rest ∙ rw (written (f .2 .put), written (g .1))
 
 -- ONE REPORT
 
@@ -66,8 +66,8 @@ unfolding noPlan
 theorems input rest = record {
   told-all = λ e none. rw (e, append-nil) none;
   told-total = λ h g _. rw (total-on input rest h, lt-ltb (totalOf input) 16 g) (or-right (ltb (length (input ++ rest)) 16) true refl);
-  goes-on = λ told table bytes table′ left old out r b text w. rw (written (b .put), ← walked-text w) (b .follows rest told);
-  is-over = λ told table bytes table′ left old out r b. rw (written (b .put)) (rw append-nil at (b .follows rest told));
+  goes-on = λ told table bytes table′ left old out r b text w. rw (written (b .2 .put), ← walked-text w) (b .2 .follows rest told);
+  is-over = λ told table bytes table′ left old out r b. rw (written (b .2 .put)) (rw append-nil at (b .2 .follows rest told));
   unique = λ a b. one-report;
 }
 

@@ -1,17 +1,23 @@
 -- What the calls promise: each prints a part of the report, and together, on the table and the record that they hand on, they print it whole.
 -- Assumes nothing.
-use Prim.Native.Nat.{ℕ, _*_, _<_}
-use mathlib.Core.Bool.{true, cond, _||_}
+use Prim.Native.Nat.{ℕ, _*_, _≤_, _<_}
+use mathlib.Core.Bool.{Bool, true, false, cond, _||_}
+use mathlib.Core.Logic.{_⊎_}
 use mathlib.Core.Path.{_≡_}
-use mathlib.Core.List.{List, [], _++_}
+use mathlib.Core.List.{List, [], _∷_, _++_}
 use lib.Dec.{eqb, ltb}
 use lib.ListN.{length}
+use Rattle.semiautomata.specs.Semiautomaton.{Semiautomaton}
+use Rattle.semiautomata.specs.Predictability.{Lookahead, Unpredictable}
+use Rattle.plan.specs.Bytes.{meaning, WellFormed}
+use Rattle.prepare.specs.Preparing.{Tabled}
 use Rattle.records.specs.Bytes.{decode}
-use Rattle.predictor.specs.Calls.{fedOn, endRefusal, ended}
+use Rattle.predictor.specs.Calls.{openedOn, fedOn, endRefusal, ended}
+use Rattle.predictor.specs.Parts.{isRefusal}
 use Rattle.text.specs.declared.Printed.{Printed}
 use Rattle.text.specs.declared.Printed.the-variants.{Going, Ended, Short}
 use Rattle.text.specs.Lines.{refusedLine, Appended}
-use Rattle.text.specs.Report.{lettersOf, noPlan, openText, walkText, Reports}
+use Rattle.text.specs.Report.{planOf, lettersOf, noPlan, openText, walkText, Reports}
 
 -- What is lent: sets for an ending, numbers for a table, bytes for a record; bytes that the first lines, the line of a letter and an open
 -- line take at the most.
@@ -47,27 +53,62 @@ pub record Laid (says : List ℕ → List ℕ → Type 0) (old : List ℕ) (at r
   pub put : Appended old at text r out
   pub follows : (letters : List ℕ) → says letters (text ++ later letters)
 
--- Letters fed to a record: the walk goes on with the record that is left; or a refusal ended it, and its open lines follow; or fewer bytes
--- are lent than the lines of so many letters may take, and nothing is done.
+-- Letters fed to a record up to the first that is refused: whether there is one, and the record that is left.
+pub record Fed : Type 0 where
+  pub refused : Bool
+  pub left : List ℕ
+
+abbrev pub fedUpto : List ℕ → List ℕ → List ℕ → Fed
+fedUpto table bytes [] = record { refused = false; left = bytes }
+fedUpto table bytes (a ∷ rest) =
+    cond (isRefusal (fedOn table bytes a .reply)) (record { refused = true; left = fedOn table bytes a .state }) (fedUpto table (fedOn table bytes a .state) rest)
+
 abbrev pub FedText : List ℕ → List ℕ → List ℕ → List ℕ → List ℕ → Type 0
 FedText table bytes letters rest text = walkOn table bytes (letters ++ rest) ≡ text
 
+-- The walk goes on with the record that is left; or a refusal ended it, and its open lines follow; or fewer bytes are lent than the lines
+-- of so many letters may take, and nothing is done.
 abbrev pub FeedsPart : List ℕ → List ℕ → List ℕ → Printed → List ℕ → List ℕ → List ℕ → Type 0
-FeedsPart table bytes letters (Going r) left old out = Laid (FedText table bytes letters) old 0 r out (walkOn table left)
-FeedsPart table bytes letters (Ended r) left old out = Laid (FedText table bytes letters) old 0 r out (λ rest. openOn table left)
+FeedsPart table bytes letters (Going r) left old out =
+    (letterWidth * length letters ≤ length old) × (fedUpto table bytes letters ≡ record { refused = false; left = left })
+    × Laid (FedText table bytes letters) old 0 r out (walkOn table left)
+FeedsPart table bytes letters (Ended r) left old out =
+    (letterWidth * length letters ≤ length old) × (fedUpto table bytes letters ≡ record { refused = true; left = left })
+    × Laid (FedText table bytes letters) old 0 r out (λ rest. openOn table left)
 FeedsPart table bytes letters Short left old out = (length old < letterWidth * length letters) × (left ≡ bytes) × (out ≡ old)
 
 -- Ending: all open lines; or fewer bytes are lent than they may take, and nothing is done.
 abbrev pub Finishes : List ℕ → List ℕ → Printed → List ℕ → List ℕ → Type 0
 Finishes table bytes (Going r) old out = ⊥
-Finishes table bytes (Ended r) old out = Appended old 0 (openOn table bytes) r out
+Finishes table bytes (Ended r) old out = (openWidth * mostSets ≤ length old) × Appended old 0 (openOn table bytes) r out
 Finishes table bytes Short old out = (length old < openWidth * mostSets) × (out ≡ old)
 
--- The first lines: the walk goes on with the table and the record that are left, or nothing follows.
+-- THE FIRST LINES
+
+-- The walk goes on with the table and the record that are left, or nothing follows.
 abbrev pub Lays : (List ℕ → List ℕ → Type 0) → List ℕ → ℕ → Printed → List ℕ → List ℕ → List ℕ → Type 0
 Lays says old at (Going r) out table left = Laid says old at r out (walkOn table left)
 Lays says old at (Ended r) out table left = Laid says old at r out (λ letters. [])
 Lays says old at Short out table left = ⊥
+
+-- nothing follows
+abbrev pub over : Printed → Bool
+over (Going r) = false
+over (Ended r) = true
+over Short = true
+
+-- What a plan that means S leaves in the lent numbers and bytes: as they were where there is no look-ahead, else its table and what opening
+-- leaves; it is over where opening is refused.
+pub data Leaves (S : Semiautomaton) (table bytes : List ℕ) (isOver : Bool) (table′ left : List ℕ) : Type 0 where
+  unpredictable : Unpredictable S → isOver ≡ true → table′ ≡ table → left ≡ bytes → Leaves S table bytes isOver table′ left
+  opens : (k : ℕ) → Lookahead S k → Tabled S k table table′ → left ≡ openedOn table′ bytes .state → isRefusal (openedOn table′ bytes .reply) ≡ isOver
+      → Leaves S table bytes isOver table′ left
+
+-- What an input leaves in them: as they were where 1 to 7 apply.
+pub data LeavesOf (input table bytes : List ℕ) (isOver : Bool) (table′ left : List ℕ) : Type 0 where
+  unread : (noPlan input ≡ true) ⊎ ¬ WellFormed (planOf input) → isOver ≡ true → table′ ≡ table → left ≡ bytes → LeavesOf input table bytes isOver table′ left
+  read : noPlan input ≡ false → WellFormed (planOf input) → Leaves (meaning (planOf input)) table bytes isOver table′ left
+      → LeavesOf input table bytes isOver table′ left
 
 -- The first bytes of an input tell whether it has a plan: refusal 1 of them is one of the whole.
 abbrev pub Told : List ℕ → List ℕ → Type 0
@@ -77,8 +118,13 @@ abbrev pub ReportText : List ℕ → List ℕ → List ℕ → Type 0
 ReportText input rest text = Told input rest → Reports (input ++ rest) text
 
 -- The report's first lines; the letters among those bytes are still to be fed. A short buffer is answered so, and nothing is done.
+abbrev pub Roomy : List ℕ → List ℕ → List ℕ → Type 0
+Roomy table bytes old = (tableSize ≤ length table) × (recordSize ≤ length bytes) × (beginWidth ≤ length old)
+
 abbrev pub Begins : List ℕ → List ℕ → List ℕ → Printed → List ℕ → List ℕ → List ℕ → List ℕ → Type 0
-Begins input table bytes (Going r) table′ left old out = Laid (ReportText input) old 0 r out (λ rest. walkOn table′ left (lettersOf input ++ rest))
-Begins input table bytes (Ended r) table′ left old out = Laid (ReportText input) old 0 r out (λ rest. [])
+Begins input table bytes (Going r) table′ left old out =
+    Roomy table bytes old × LeavesOf input table bytes false table′ left × Laid (ReportText input) old 0 r out (λ rest. walkOn table′ left (lettersOf input ++ rest))
+Begins input table bytes (Ended r) table′ left old out =
+    Roomy table bytes old × LeavesOf input table bytes true table′ left × Laid (ReportText input) old 0 r out (λ rest. [])
 Begins input table bytes Short table′ left old out =
     ((ltb (length table) tableSize || (ltb (length bytes) recordSize || ltb (length old) beginWidth)) ≡ true) × (table′ ≡ table) × (left ≡ bytes) × (out ≡ old)

@@ -9,10 +9,11 @@ ghost use Rattle.plan.specs.Bytes.{meaning, WellFormed};
 ghost use Rattle.table.specs.Table.{lookaheadOf, tableMeaning, unfit};
 ghost use Rattle.records.specs.Bytes.{numberAt};
 ghost use Rattle.predictor.specs.Replies.{said};
+ghost use Rattle.predictor.specs.Calls.{openedOn};
 ghost use Rattle.predictor.specs.Parts.{isRefusal};
 ghost use Rattle.text.specs.Lines.{Appended};
 ghost use Rattle.text.specs.Report.{totalOf, noPlan, replyText, openLines, AfterLookahead, AfterCounts};
-ghost use Rattle.text.specs.Calls.{mostSets, tableSize, recordSize, letterWidth, openWidth, FeedsPart, Finishes, Lays, Begins};
+ghost use Rattle.text.specs.Calls.{mostSets, tableSize, recordSize, letterWidth, openWidth, over, FeedsPart, Finishes, Lays, Leaves, Begins};
 use plan::Reading;
 use predictor::Answer;
 use predictor::Ended;
@@ -85,7 +86,7 @@ fn no_plan(input: &[u8]) -> bool
 // What is printed of opening a record on a table, and whether the walk goes on.
 fn opened(table: &[u64], rec: &mut [u8], out: &mut [u8], at: usize) -> Printed
     requires { ⌜ (unfit (now table) ≡ false) × Lookahead (tableMeaning (now table)) (lookaheadOf (now table)) × (recordSize ≤ length (now rec)) × (at + letterWidth ≤ length (now out)) ⌝ }
-    ensures { λ r. ⌜ Lays (AfterLookahead (tableMeaning (now (table .entry))) (lookaheadOf (now (table .entry)))) (now (out .entry)) at r (now (out .exit)) (now (table .entry)) (now (rec .exit)) ⌝ }
+    ensures { λ r. ⌜ Lays (AfterLookahead (tableMeaning (now (table .entry))) (lookaheadOf (now (table .entry)))) (now (out .entry)) at r (now (out .exit)) (now (table .entry)) (now (rec .exit)) × (now (rec .exit) ≡ openedOn (now (table .entry)) (now (rec .entry)) .state) × (isRefusal (openedOn (now (table .entry)) (now (rec .entry)) .reply) ≡ over r) ⌝ }
 {
     let answer = predictor::open(table, rec);
     let end = reply(out, at, answer);
@@ -100,7 +101,7 @@ fn opened(table: &[u64], rec: &mut [u8], out: &mut [u8], at: usize) -> Printed
 // preparing refuses no such plan.
 fn prepared(plan: &[u8], table: &mut [u64], rec: &mut [u8], out: &mut [u8], at: usize) -> Printed
     requires { ⌜ WellFormed (now plan) × (tableSize ≤ length (now table)) × (recordSize ≤ length (now rec)) × (at + 56 ≤ length (now out)) ⌝ }
-    ensures { λ r. ⌜ Lays (AfterCounts (meaning (now (plan .entry)))) (now (out .entry)) at r (now (out .exit)) (now (table .exit)) (now (rec .exit)) ⌝ }
+    ensures { λ r. ⌜ Lays (AfterCounts (meaning (now (plan .entry)))) (now (out .entry)) at r (now (out .exit)) (now (table .exit)) (now (rec .exit)) × Leaves (meaning (now (plan .entry))) (now (table .entry)) (now (rec .entry)) (over r) (now (table .exit)) (now (rec .exit)) ⌝ }
 {
     let mut letters = [0u8; 4096];
     let prepared = prepare::prepare(plan, table, &mut letters);

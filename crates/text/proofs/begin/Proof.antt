@@ -2,7 +2,8 @@
 -- Assumes nothing.
 use Prim.Native.Nat.{_≤_}
 use mathlib.Core.Bool.{false}
-use mathlib.Core.Path.{_≡_, sym, _∙_}
+use mathlib.Core.Logic.{inl, inr}
+use mathlib.Core.Path.{_≡_, refl, sym, _∙_}
 use native.Mathlib.Omega.{arith}
 use lib.ListN.{length, take}
 use lib.Seq.{length-take-le}
@@ -10,7 +11,7 @@ use Rattle.plan.specs.declared.Reading.the-variants.{Counts, Refused}
 use Rattle.plan.specs.Bytes.{reading}
 use Rattle.text.specs.Lines.{countsLine}
 use Rattle.text.specs.Report.{noPlan, planOf}
-use Rattle.text.specs.Calls.{tableSize, recordSize, beginWidth}
+use Rattle.text.specs.Calls.{tableSize, recordSize, beginWidth, unread}
 use Rattle.text.proofs.Lines.{appended-long}
 use Rattle.text.proofs.Widths.{counts-width, refused-width}
 use Rattle.text.proofs.Beginning.{three-long, whole, read-well, begun-no-plan, begun-ill, begun-well}
@@ -51,7 +52,9 @@ same-length : tie.Need-same-length
 same-length c = search needs
 
 returns-2 : tie.Need-returns-2
-returns-2 c = begun-no-plan (c .before .before .before .before .before .before .before .before .before .before .before .args .input .now) (sym (c .before .before .before .before .before .no-plan .ensures) ∙ c .before .before .before .before .if2 .taken) (c .before .before .refused .ensures)
+returns-2 c =
+    let e = sym (c .before .before .before .before .before .no-plan .ensures) ∙ c .before .before .before .before .if2 .taken in
+    (lent (c .before .before .before .before .before .before), unread (inl e) refl refl refl, begun-no-plan (c .before .before .before .before .before .before .before .before .before .before .before .args .input .now) e (c .before .before .refused .ensures))
 
 total-requires : tie.Need-total-requires
 total-requires c κs = search needs
@@ -84,7 +87,9 @@ same-length-2 : tie.Need-same-length-2
 same-length-2 c = search needs
 
 returns-3 : tie.Need-returns-3
-returns-3 c = begun-ill (c .before .before .before .before .before .before .before .before .before .before .before .before .before .before .before .before .before .args .input .now) (is-plan (c .before .before .before .before .before .before .before .before .before .before)) _ (ill (c .before .before .before .before .before)) (c .before .before .refused2 .ensures)
+returns-3 c =
+    let (ill-formed, laid) = begun-ill (c .before .before .before .before .before .before .before .before .before .before .before .before .before .before .before .before .before .args .input .now) (is-plan (c .before .before .before .before .before .before .before .before .before .before)) _ (ill (c .before .before .before .before .before)) (c .before .before .refused2 .ensures) in
+    (lent (c .before .before .before .before .before .before .before .before .before .before .before .before), unread (inr ill-formed) refl refl refl, laid)
 
 same-length-3 : tie.Need-same-length-3
 same-length-3 c = search needs
@@ -98,8 +103,9 @@ same-length-5 c = search needs
 returns-4 : tie.Need-returns-4
 returns-4 c = let s = c .before .before .before .before .before .before .before .before .before .before .before .before .before .before .before .before .before .before .before .before .before .before .before .before .before .before .before .args in
     let q = c .before .before .before .before .before .before .prepared in
+    let (lays, leaves) = rw (part (c .before .before .before .before .before .before .before .before .before .before .before .before .before .before .before .before .before .before .before)) at (q .ensures) in
     begun-well (s .input .now) (is-plan (c .before .before .before .before .before .before .before .before .before .before .before .before .before .before .before .before .before .before .before .before)) (counted (c .before .before .before .before .before .before .before .before .before .before .before .before .before .before .before)) (c .before .before .before .before .before .before .before .before .before .before .before .before .counts .ensures) (q .result) (s .table .now) (s .rec .now) (q .last .1 .0) (q .last .1 .1 .0) (q .last .1 .1 .1 .0)
-    (rw (part (c .before .before .before .before .before .before .before .before .before .before .before .before .before .before .before .before .before .before .before)) at (q .ensures))
+    (lent (c .before .before .before .before .before .before .before .before .before .before .before .before .before .before .before .before .before .before .before .before .before .before)) lays leaves
 
 pub begin-spec : {M : Type 1} → statement M
 begin-spec =

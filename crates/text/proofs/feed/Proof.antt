@@ -41,7 +41,8 @@ same-length-2 c = c .before .before .before .before .reply .kept .0 ∙ appended
 
 returns-2 : tie.Need-returns-2 Inv-loop μ-loop
 returns-2 c = let f = c .before .before .before .before .before .before .before .before .feed .ensures in
-    upto-refused (c .before .before .before .before .before .before .before .before .before .before .before .before .loop .inv .1) (omega arith) (f .0) (f .1) (c .before .before .before .before .reply .ensures .0) (sym (c .before .is-refusal .ensures) ∙ c .if2 .taken)
+    let (fed, laid) = upto-refused (c .before .before .before .before .before .before .before .before .before .before .before .before .loop .inv .1) (omega arith) (f .0) (f .1) (c .before .before .before .before .reply .ensures .0) (sym (c .before .is-refusal .ensures) ∙ c .if2 .taken) in
+    (omega (arith, c .before .before .before .before .before .before .before .before .before .before .before .before .before .if1 .left), fed, laid)
 
 add-i : tie.Need-add-i Inv-loop μ-loop
 add-i c = omega arith
@@ -61,7 +62,7 @@ same-length-4 : tie.Need-same-length-4 Inv-loop μ-loop
 same-length-4 c = appended-long (c .before .loop .inv .1 .put)
 
 returns-3 : tie.Need-returns-3 Inv-loop μ-loop
-returns-3 c = upto-all (c .before .loop .inv .1) (omega arith)
+returns-3 c = let (fed, laid) = upto-all (c .before .loop .inv .1) (omega arith) in (omega (arith, c .before .before .if1 .left), fed, laid)
 
 pub feed-spec : {M : Type 1} → statement M
 feed-spec =

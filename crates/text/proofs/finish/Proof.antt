@@ -65,7 +65,7 @@ same-length c = search needs
 
 returns-2 : tie.Need-returns-2
 returns-2 c = let (e, n, _) = rw (c .before .before .before .before .before .ended .given .1) at (c .before .before .before .before .before .before .before .before .finish .ensures) in
-    finished-refused (c .before .before .before .before .before .before .before .before .before .before .before .before .before .before .args .table .now) (c .before .before .before .before .before .before .before .before .before .before .before .before .before .before .args .rec .now) _ e n (c .before .before .refused .ensures)
+    (omega (arith, c .before .before .before .before .before .before .before .before .before .before .if1 .left), finished-refused (c .before .before .before .before .before .before .before .before .before .before .before .before .before .before .args .table .now) (c .before .before .before .before .before .before .before .before .before .before .before .before .before .before .args .rec .now) _ e n (c .before .before .refused .ensures))
 
 same-length-2 : tie.Need-same-length-2
 same-length-2 c = search needs
@@ -74,8 +74,8 @@ returns-3 : tie.Need-returns-3
 returns-3 c = let e = c .before .before .before .before .before .before .before .before in
     let s = c .before .before .before .before .before .before .before .before .before .before .before .before .before .before .before .before .before in
     let (z, _, is) = rw (e .ended2 .given .1) at (c .before .before .before .before .before .before .before .before .before .before .before .finish .ensures) in
-    finished-open (s .args .table .now) (s .args .rec .now) z (e .ended2 .given .0 .0) (c .before .before .before .before .before .less .result) (c .before .before .before .before .before .before .before .before .before .before .before .finish .last .1 .1 .0) _ (few e .0) is
-    (c .before .before .before .before .before .less .ensures ∙ ap (λ (x : ℕ). x + 1 - e .ended2 .given .0 .0) (c .before .before .before .before .before .before .fed-of .ensures .0)) (c .before .before .open-lines .ensures)
+    (omega (arith, c .before .before .before .before .before .before .before .before .before .before .before .before .before .if1 .left), finished-open (s .args .table .now) (s .args .rec .now) z (e .ended2 .given .0 .0) (c .before .before .before .before .before .less .result) (c .before .before .before .before .before .before .before .before .before .before .before .finish .last .1 .1 .0) _ (few e .0) is
+    (c .before .before .before .before .before .less .ensures ∙ ap (λ (x : ℕ). x + 1 - e .ended2 .given .0 .0) (c .before .before .before .before .before .before .fed-of .ensures .0)) (c .before .before .open-lines .ensures))
 
 pub finish-spec : {M : Type 1} → statement M
 finish-spec =

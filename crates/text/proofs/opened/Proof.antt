@@ -24,7 +24,8 @@ same-length-2 c = search needs
 returns : tie.Need-returns
 returns c = let s = c .before .before .before .before .before .before .before .before .before .before .before .before .before in
     let o = c .before .before .before .before .before .before .before .before .«open» .ensures in
-    opened-ends (s .args .table .now) (s .pre .0) (s .pre .1) (s .args .rec .now) (s .pre .2) (o .0) (o .1) (c .before .before .before .before .reply .ensures .0) (sym (c .before .is-refusal .ensures) ∙ c .if1 .taken)
+    let e = sym (c .before .is-refusal .ensures) ∙ c .if1 .taken in
+    (opened-ends (s .args .table .now) (s .pre .0) (s .pre .1) (s .args .rec .now) (s .pre .2) (o .0) (o .1) (c .before .before .before .before .reply .ensures .0) e, o .1, rw (← o .0) e)
 
 same-length-3 : tie.Need-same-length-3
 same-length-3 c = search needs
@@ -35,7 +36,8 @@ same-length-4 c = search needs
 returns-2 : tie.Need-returns-2
 returns-2 c = let s = c .before .before .before .before .before .before .before .before .before .before .before .before .before in
     let o = c .before .before .before .before .before .before .before .before .«open» .ensures in
-    opened-goes (s .args .table .now) (s .pre .0) (s .pre .1) (s .args .rec .now) (s .pre .2) (o .0) (o .1) (c .before .before .before .before .reply .ensures .0) (sym (c .before .is-refusal .ensures) ∙ c .if1 .left)
+    let e = sym (c .before .is-refusal .ensures) ∙ c .if1 .left in
+    (opened-goes (s .args .table .now) (s .pre .0) (s .pre .1) (s .args .rec .now) (s .pre .2) (o .0) (o .1) (c .before .before .before .before .reply .ensures .0) e, o .1, rw (← o .0) e)
 
 pub opened-spec : {M : Type 1} → statement M
 opened-spec =

@@ -1,12 +1,13 @@
 -- `prepared` meets its contract.
 -- Assumes nothing.
-use mathlib.Core.Path.{_∙_}
+use mathlib.Core.Path.{refl, _∙_}
 use native.Mathlib.Omega.{arith}
 use lib.ListN.{length}
 use Rattle.semiautomata.specs.Predictability.{Lookahead}
 use Rattle.plan.specs.Bytes.{meaning}
 use Rattle.prepare.specs.Preparing.{Tabled}
 use Rattle.prepare.proofs.Theorems.{shown-never}
+use Rattle.text.specs.Calls.{unpredictable, opens}
 use Rattle.text.proofs.Lines.{appended-long}
 use Rattle.text.proofs.Widths.{lookahead-width, refused-width}
 use Rattle.text.proofs.Beginning.{prepare-taken, counted, never-counted}
@@ -58,7 +59,9 @@ same-length-3 : tie.Need-same-length-3
 same-length-3 c = search needs
 
 returns : tie.Need-returns
-returns c = let (l, t) = ready (c .before .before .before .before .before .before .before .before .before .before .before .before .before) in counted l t (c .before .before .before .before .before .before .before .before .before .before .lookahead .ensures) (c .before .before .before .before .opened .result) (c .before .before .before .before .opened .last .1 .1 .0) (c .before .before .before .before .opened .last .1 .0) (c .before .before .before .before .opened .ensures)
+returns c = let (l, t) = ready (c .before .before .before .before .before .before .before .before .before .before .before .before .before) in
+    let (lays, left, ends) = c .before .before .before .before .opened .ensures in
+    (counted l t (c .before .before .before .before .before .before .before .before .before .before .lookahead .ensures) (c .before .before .before .before .opened .result) (c .before .before .before .before .opened .last .1 .1 .0) (c .before .before .before .before .opened .last .1 .0) lays, opens _ l t left ends)
 
 same-length-4 : tie.Need-same-length-4
 same-length-4 c = search needs
@@ -78,7 +81,8 @@ same-length-7 : tie.Need-same-length-7
 same-length-7 c = search needs
 
 returns-3 : tie.Need-returns-3
-returns-3 c = let (_, e, _) = rw (c .before .before .before .before .enum-told .given .1) at (c .before .before .before .before .before .before .before .before .before .prepare .ensures) in never-counted (shown-never e) (c .before .before .refused2 .ensures)
+returns-3 c = let (_, e, kept) = rw (c .before .before .before .before .enum-told .given .1) at (c .before .before .before .before .before .before .before .before .before .prepare .ensures) in
+    (never-counted (shown-never e) (c .before .before .refused2 .ensures), unpredictable (shown-never e) refl kept refl)
 
 pub prepared-spec : {M : Type 1} → statement M
 prepared-spec =
