@@ -1,6 +1,6 @@
 // The look-ahead of a semiautomaton by its successor sets, or the witness that there is none; never from plan bytes.
-// Level by level, pairs of states that share no longer word are struck from a list of work; the first level without live rivals is the
-// look-ahead, and a round that strikes nothing means that what is live then lives for ever.
+// Level by level, pairs of states that share no longer word are struck, and a list of work says which are looked at; the first level
+// without live rivals is the look-ahead, and a round that strikes nothing means that what is live then lives for ever.
 mod rows; // rows.rt: rows of pairs of states
 mod levels; // levels.rt: the levels of live pairs, round by round
 mod witness; // witness.rt: the critical set and the lasso of two states that share words of every length

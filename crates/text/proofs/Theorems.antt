@@ -1,4 +1,4 @@
--- The theorems of specs/Theorems.antt, and the sample.
+-- The theorems of specs/Theorems.antt.
 -- Assumes nothing.
 use Prim.Native.Nat.{ℕ, _+_}
 use mathlib.Core.Bool.{true, false, true≢false}
@@ -61,6 +61,12 @@ one-report (well-formed n _ _) (no-plan e) = absurd (true≢false (sym e ∙ n))
 one-report (well-formed _ w _) (ill-formed _ i) = absurd (i w)
 one-report (well-formed _ _ a) (well-formed _ _ b) = rw (one-counted a b)
 
+-- THE SAMPLE
+
+sample-printed : Reports sample sampleText
+unfolding noPlan digits decimal field countsLine lookaheadLine resolutionLine listed openLine openLines openText walkText plainText limit stateAt plainReply plainFeed followed unresolved possible walkable spells step any least has setOf
+sample-printed = let a = rows-hold .0 in well-formed refl (a .well-formed) (predicts 1 (a .holds) (walked 0 refl))
+
 pub theorems : (input rest : List ℕ) → Theorems input rest
 unfolding noPlan
 theorems input rest = record {
@@ -69,10 +75,5 @@ theorems input rest = record {
   goes-on = λ told table bytes table′ left old out r b text w. rw (written (b .2 .put), ← walked-text w) (b .2 .follows rest told);
   is-over = λ told table bytes table′ left old out r b. rw (written (b .2 .put)) (rw append-nil at (b .2 .follows rest told));
   unique = λ a b. one-report;
+  sample-printed = sample-printed;
 }
-
--- THE SAMPLE
-
-pub sample-printed : Reports sample sampleText
-unfolding noPlan digits decimal field countsLine lookaheadLine resolutionLine listed openLine openLines openText walkText plainText limit stateAt plainReply plainFeed followed unresolved possible walkable spells step any least has setOf
-sample-printed = let a = rows-hold .0 in well-formed refl (a .well-formed) (predicts 1 (a .holds) (walked 0 refl))

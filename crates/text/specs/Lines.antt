@@ -11,13 +11,13 @@ use Rattle.plan.specs.declared.group.Group.{Group}
 use Rattle.plan.specs.declared.group.Group.the-variants.{Author, Caller, Logger, Nobody}
 use Rattle.plan.specs.Groups.{groupOf}
 
--- The decimal digits of x, none but 0 itself with a zero in front: those of x / 10, unless x is below 10, and the last digit. The count c
--- only bounds how many stand in front of the last.
+-- The decimal digits of x: those of x / 10, unless x is below 10, and then the last digit. The count c only bounds how many stand in front
+-- of the last.
 unfoldable pub digits : ℕ → ℕ → List ℕ
 digits zero x = (48 + x % 10) ∷ []
 digits (suc c) x = cond (ltb x 10) [] (digits c (x / 10)) ++ ((48 + x % 10) ∷ [])
 
--- A number has at most as many digits in front of its last as it counts.
+-- A number as it is printed: it has no more digits in front of its last than it counts, so that x itself is bound enough.
 unfoldable pub decimal : ℕ → List ℕ
 decimal x = digits x x
 

@@ -48,3 +48,5 @@ pub record Theorems (input rest : List ℕ) : Type 0 where
       → Reports (input ++ rest) (take r out)
   -- an input has one report
   pub unique : (a b : List ℕ) → Reports input a → Reports input b → a ≡ b
+  -- the sample has its six lines
+  pub sample-printed : Reports sample sampleText
