@@ -1,11 +1,10 @@
-/* Gawherino for C: every call of the library over plain numbers and lent slices.
+/* Gawherino for C: every call on plans, tables and records, over plain numbers and lent slices.
  *
  * A slice is a pointer and then how many elements are lent. Each call answers a value below 65,536, or 65,536 plus the number of a
  * refusal (document 01); further values go into a lent slice, which keeps its rest. A refused call writes nothing, except that under 15
  * preparing and the count call write the evidence. A slice for further values with fewer places than are named below is refused with 9,
  * in its place among the refusals, also where the call would put nothing there. A pointer that goes with the length 0 may be anything; no
- * two slices that are lent to one call may overlap if one of them is written. Nothing is kept between calls, so that different threads may
- * call at once.
+ * two slices that are lent to one call may overlap if one of them is written. No call keeps or shares anything beyond what it is lent.
  */
 #ifndef GAWHERINO_H
 #define GAWHERINO_H
@@ -36,7 +35,7 @@ uint32_t gawherino_read(const uint8_t *plan, size_t plan_len, uint32_t *counts, 
 
 /* Preparing a plan: k, and its table (4 + n * m numbers). Refused with 1 to 7, 9, 15.
  * Under 15, into evidence (6): the critical set's stake and code, stakes s and t, the lengths of the lead-in and of the loop; and into
- * letters (n * n bytes) the codes of both. */
+ * letters (n * n bytes) the lead-in's codes and then the loop's codes. */
 uint32_t gawherino_prepare(const uint8_t *plan, size_t plan_len, uint64_t *table, size_t table_len, uint8_t *letters, size_t letters_len,
                            uint32_t *evidence, size_t evidence_len);
 
@@ -47,7 +46,8 @@ uint32_t gawherino_look_ahead(const uint8_t *plan, size_t plan_len, uint8_t *let
 /* The drawing program's entry: k, with no lent buffer. Refused with 1 to 7, 15. */
 uint32_t gawherino_count(const uint8_t *plan, size_t plan_len);
 
-/* The check of a claim, given as evidence is: 1 for yes, 0 for no; a claim of fewer than six numbers is no. Refused with 1 to 7. */
+/* The check of a claim, given as evidence is: 1 for yes, 0 for no; a claim of fewer than six numbers is no, and numbers past the sixth are
+ * not read. Refused with 1 to 7. */
 uint32_t gawherino_check(const uint8_t *plan, size_t plan_len, const uint32_t *claim, size_t claim_len, const uint8_t *letters,
                          size_t letters_len);
 
@@ -69,8 +69,8 @@ uint32_t gawherino_open(const uint64_t *table, size_t table_len, uint8_t *rec, s
 uint32_t gawherino_feed(const uint64_t *table, size_t table_len, uint8_t *rec, size_t rec_len, uint8_t letter, uint32_t *position,
                         size_t position_len);
 
-/* Ending a walk: how many positions are not booked, with their possible stakes, lowest position first, into sets (k of them).
- * Refused with 8, 9, 10. */
+/* Ending a walk: how many positions are not booked; into sets (room for k is needed, and as many are written as is answered): their
+ * possible stakes, lowest position first. Refused with 8, 9, 10. */
 uint32_t gawherino_finish(const uint64_t *table, size_t table_len, const uint8_t *rec, size_t rec_len, uint64_t *sets, size_t sets_len);
 
 #ifdef __cplusplus
