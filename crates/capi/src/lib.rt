@@ -1,4 +1,4 @@
-// Every call of the library for C, over plain numbers and lent slices (include/gawherino.h has them in C).
+// The calls on plans, tables and records for C, over plain numbers and lent slices (include/gawherino.h has them in C).
 // A call answers one number, a value below 65,536 or 65,536 plus the refusal, and puts further values at the front of a lent slice.
 // Where that slice has too few places for the most that a call may have to put there, it is refused with 9 before anything is written.
 ghost use mathlib.Core.Path.{_≡_};
