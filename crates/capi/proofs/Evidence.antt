@@ -39,10 +39,10 @@ short-false S claim letters h t =
 
 module _ (plan claim letters : List ℕ) where
   -- what the check of a claim answers, in a number
-  pub passes-check : {c : Evidence} → c ≡ claimOf claim → (a : Checked) → Checks plan c letters a → {r : ℕ} → r ≡ ofChecked a .code → PassesCheck plan claim letters r
+  pub passes-check : {c : Evidence} → c ≡ claimOf claim → (a : Checked) → Checks plan c letters a → {r : ℕ} → r ≡ ofChecked a .first → PassesCheck plan claim letters r
   passes-check i a m e = go a (rw i at m) e
     where
-      go : (a : Checked) → Checks plan (claimOf claim) letters a → {r : ℕ} → r ≡ ofChecked a .code → PassesCheck plan claim letters r
+      go : (a : Checked) → Checks plan (claimOf claim) letters a → {r : ℕ} → r ≡ ofChecked a .first → PassesCheck plan claim letters r
       go checked.Yes m e = record {
         answer = checked.Yes;
         meets = m;

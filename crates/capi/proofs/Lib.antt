@@ -1,5 +1,5 @@
 pub mod Rooms
 pub mod Evidence
 pub mod Endings
-pub mod Codes
+pub mod Answering
 pub mod Theorems

@@ -24,13 +24,13 @@ use Rattle.predictor.specs.declared.Ended.{Ended}
 use Rattle.predictor.specs.declared.Ended.the-variants as ended
 
 pub record Numbers : Type 0 where
-  pub code : ℕ
+  pub first : ℕ
   pub further : List ℕ
 
 -- THE NUMBERS OF EACH ANSWER
 
 abbrev pub valued : ℕ → List ℕ → Numbers
-valued code further = record { code = code; further = further }
+valued first further = record { first = first; further = further }
 
 abbrev pub refusing : ℕ → ℕ
 refusing r = 65536 + r
@@ -85,9 +85,9 @@ Fit32 (Unpredictable e) = Unit {0}
 
 -- HOW A CALL PASSES THEM ON
 
--- The code is what is answered, and the further values stand at the front of the slice lent for them, which keeps its rest.
+-- The first is what is answered, and the further values stand at the front of the slice lent for them, which keeps its rest.
 pub record Passed (a : Numbers) (r : ℕ) (old more : List ℕ) : Type 0 where
-  pub answered : r ≡ a .code
+  pub answered : r ≡ a .first
   pub written : more ≡ a .further ++ drop (length (a .further)) old
 
 -- Refused for want of room for further values: the lowest refusal that applies of those before 9, or 9.

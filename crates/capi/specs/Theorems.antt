@@ -12,21 +12,21 @@ use Rattle.predictor.specs.Calls.{Opens, Feeds}
 use Rattle.capi.specs.Numbers.{refusing}
 use Rattle.capi.specs.Promises.{PassesReading, PassesPrepared, PassesCount, PassesCheck, PassesWalk, PassesVerdict, PassesOpening, PassesLetter, PassesEnding}
 
-pub data Code (r : ℕ) : Type 0 where
-  value : r < 65536 → Code r
-  refusal : (number : ℕ) → 1 ≤ number → number ≤ 15 → r ≡ refusing number → Code r
+pub data Number (r : ℕ) : Type 0 where
+  value : r < 65536 → Number r
+  refusal : (number : ℕ) → 1 ≤ number → number ≤ 15 → r ≡ refusing number → Number r
 
 pub record Theorems (r : ℕ) : Type 0 where
-  pub reading : (plan old counts : List ℕ) → PassesReading plan r old counts → Code r
-  pub preparing : (plan old table old′ letters old″ evidence : List ℕ) → PassesPrepared plan r old table old′ letters old″ evidence → Code r
-  pub counting : (plan old letters old′ evidence : List ℕ) → PassesCount plan r old letters old′ evidence → Code r
-  pub drawing : (plan : List ℕ) → Draws plan r → Code r
-  pub checking : (plan claim letters : List ℕ) → PassesCheck plan claim letters r → Code r
-  pub walking : (table word old sets old′ length : List ℕ) → PassesWalk table word r old sets old′ length → Code r
-  pub judging : (table : List ℕ) (state letter : ℕ) (word old sets : List ℕ) → PassesVerdict table state letter word r old sets → Code r
-  pub opening : (table old bytes old′ position : List ℕ) → PassesOpening table r old bytes old′ position → Code r
-  pub feeding : (table : List ℕ) (letter : ℕ) (old bytes old′ position : List ℕ) → PassesLetter table letter r old bytes old′ position → Code r
-  pub ending : (table bytes old sets : List ℕ) → PassesEnding table bytes r old sets → Code r
+  pub reading : (plan old counts : List ℕ) → PassesReading plan r old counts → Number r
+  pub preparing : (plan old table old′ letters old″ evidence : List ℕ) → PassesPrepared plan r old table old′ letters old″ evidence → Number r
+  pub counting : (plan old letters old′ evidence : List ℕ) → PassesCount plan r old letters old′ evidence → Number r
+  pub drawing : (plan : List ℕ) → Draws plan r → Number r
+  pub checking : (plan claim letters : List ℕ) → PassesCheck plan claim letters r → Number r
+  pub walking : (table word old sets old′ length : List ℕ) → PassesWalk table word r old sets old′ length → Number r
+  pub judging : (table : List ℕ) (state letter : ℕ) (word old sets : List ℕ) → PassesVerdict table state letter word r old sets → Number r
+  pub opening : (table old bytes old′ position : List ℕ) → PassesOpening table r old bytes old′ position → Number r
+  pub feeding : (table : List ℕ) (letter : ℕ) (old bytes old′ position : List ℕ) → PassesLetter table letter r old bytes old′ position → Number r
+  pub ending : (table bytes old sets : List ℕ) → PassesEnding table bytes r old sets → Number r
   -- a state that opening or a letter resolves is below n, and n is at most 64: so it is never 255, the value where nothing is resolved
   pub opened-below : (table bytes : List ℕ) (i x : ℕ) (left : List ℕ) → Opens table bytes (Resolved i x) left → (x < statesOf table) × (statesOf table ≤ 64)
   pub fed-below : (table bytes : List ℕ) (letter i x : ℕ) (left : List ℕ) → Feeds table bytes letter (Resolved i x) left → (x < statesOf table) × (statesOf table ≤ 64)

@@ -13,7 +13,7 @@ use Rattle.predictor.specs.Calls.{fedOn}
 use Rattle.predictor.specs.Parts.{isRefusal}
 use Rattle.text.specs.Lines.{Appended}
 use Rattle.text.specs.Report.{replyText, walkText}
-use Rattle.text.specs.Calls.{letterWidth, openOn, walkOn, Laid, Fed, fedUpto, FedText}
+use Rattle.text.specs.Calls.{letterWidth, openOn, walkOn, Laid, fedUpto, FedText}
 use Rattle.text.proofs.Lines.{appended-none, appended-on}
 
 -- the first i letters are fed, and the record is `left`

@@ -73,9 +73,11 @@ same-length-2 c = search needs
 returns-3 : tie.Need-returns-3
 returns-3 c = let e = c .before .before .before .before .before .before .before .before in
     let s = c .before .before .before .before .before .before .before .before .before .before .before .before .before .before .before .before .before in
-    let (z, _, is) = rw (e .ended2 .given .1) at (c .before .before .before .before .before .before .before .before .before .before .before .finish .ensures) in
-    (omega (arith, c .before .before .before .before .before .before .before .before .before .before .before .before .before .if1 .left), finished-open (s .args .table .now) (s .args .rec .now) z (e .ended2 .given .0 .0) (c .before .before .before .before .before .less .result) (c .before .before .before .before .before .before .before .before .before .before .before .finish .last .1 .1 .0) _ (few e .0) is
-    (c .before .before .before .before .before .less .ensures ∙ ap (λ (x : ℕ). x + 1 - e .ended2 .given .0 .0) (c .before .before .before .before .before .before .fed-of .ensures .0)) (c .before .before .open-lines .ensures))
+    let (z, _, is) = rw (e .ended2 .given .1) at (c .before .before .before .before .before .before .before .before .before .before .before .finish .ensures) in (
+      omega (arith, c .before .before .before .before .before .before .before .before .before .before .before .before .before .if1 .left),
+      finished-open (s .args .table .now) (s .args .rec .now) z (e .ended2 .given .0 .0) (c .before .before .before .before .before .less .result) (c .before .before .before .before .before .before .before .before .before .before .before .finish .last .1 .1 .0) _ (few e .0) is
+          (c .before .before .before .before .before .less .ensures ∙ ap (λ (x : ℕ). x + 1 - e .ended2 .given .0 .0) (c .before .before .before .before .before .before .fed-of .ensures .0)) (c .before .before .open-lines .ensures),
+    )
 
 pub finish-spec : {M : Type 1} → statement M
 finish-spec =

@@ -45,7 +45,7 @@ use Rattle.predictor.specs.declared.Ended.the-variants as ended
 use Rattle.predictor.specs.Calls.{tableCheck, recordCheck, tidyCheck, onto, openedOn, fedOn, Opens, Feeds, endChecks, endRefusal, Ends}
 use Rattle.records.specs.Bytes.{decode}
 use Rattle.capi.specs.Numbers.{Numbers, refusing, ofReading, ofPrepared, ofChecked, ofWalked, ofJudged, ofAnswer, ofEnded, Gives, answers, refuses}
-use Rattle.capi.specs.Theorems.{Code, value, refusal as refusal-code}
+use Rattle.capi.specs.Theorems.{Number, value, refusal as refusal-number}
 use Rattle.capi.proofs.Endings.{few-ended}
 
 -- CHECKS IN ORDER
@@ -63,8 +63,8 @@ lowest-le (c ∷ cs) (_, h, n) = go (decided (c .applies)) (lowest-le cs n)
     go (inl a) ih = rw a h
     go (inr a) ih = rw a ih
 
-pub refused-code : (cs : List Check) → Numbered cs → {r : ℕ} → r ≡ lowest cs → ¬ (r ≡ 0) → Code (refusing r)
-refused-code cs n {r} e z = let h = lowest-le cs n in refusal-code r (omega (arith, z)) (omega (arith, h, e)) refl
+pub refused-number : (cs : List Check) → Numbered cs → {r : ℕ} → r ≡ lowest cs → ¬ (r ≡ 0) → Number (refusing r)
+refused-number cs n {r} e z = let h = lowest-le cs n in refusal-number r (omega (arith, z)) (omega (arith, h, e)) refl
 
 -- for want of room some refusal is given
 no-room : (cs : List Check) → Numbered cs → (1 ≤ lowest (cs ++ short true)) × (lowest (cs ++ short true) ≤ 15)
@@ -76,10 +76,10 @@ no-room (c ∷ cs) (l, h, n) = go (decided (c .applies)) (no-room cs n)
     go (inl a) ih = rw a (l, h)
     go (inr a) ih = rw a ih
 
-pub gives-code : {A : Type 0} {numbers : A → Numbers} {room : ℕ} {before : List Check} {Meets : A → Type 0} {Kept : Type 0} {r : ℕ} {old more : List ℕ}
-    → Numbered before → ((a : A) → Meets a → Code (numbers a .code)) → Gives numbers room before Meets Kept r old more → Code r
-gives-code n f (answers _ a m p) = rw (p .answered) (f a m)
-gives-code {before = before} n f (refuses _ e _ _) = let (l, h) = no-room before n in refusal-code _ l h e
+pub gives-number : {A : Type 0} {numbers : A → Numbers} {room : ℕ} {before : List Check} {Meets : A → Type 0} {Kept : Type 0} {r : ℕ} {old more : List ℕ}
+    → Numbered before → ((a : A) → Meets a → Number (numbers a .first)) → Gives numbers room before Meets Kept r old more → Number r
+gives-number n f (answers _ a m p) = rw (p .answered) (f a m)
+gives-number {before = before} n f (refuses _ e _ _) = let (l, h) = no-room before n in refusal-number _ l h e
 
 pub plan-numbered : (plan : List ℕ) (more : List Check) → Numbered more → Numbered (planChecks plan ++ more)
 plan-numbered plan more n =
@@ -88,60 +88,60 @@ plan-numbered plan more n =
 -- ANSWERS ABOUT A PLAN
 
 module _ (plan : List ℕ) where
-  pub unread-code : {r : ℕ} → r ≡ refusal plan → ¬ (r ≡ 0) → Code (refusing r)
+  pub unread-number : {r : ℕ} → r ≡ refusal plan → ¬ (r ≡ 0) → Number (refusing r)
   unfolding refusal
-  unread-code = refused-code (planChecks plan) (plan-numbered plan [] tt)
+  unread-number = refused-number (planChecks plan) (plan-numbered plan [] tt)
 
-  short-code : (b : Bool) {r : ℕ} → r ≡ lowest (planChecks plan ++ short b) → ¬ (r ≡ 0) → Code (refusing r)
-  short-code b = refused-code (planChecks plan ++ short b) (plan-numbered plan (short b) (omega arith, omega arith, tt))
+  short-number : (b : Bool) {r : ℕ} → r ≡ lowest (planChecks plan ++ short b) → ¬ (r ≡ 0) → Number (refusing r)
+  short-number b = refused-number (planChecks plan ++ short b) (plan-numbered plan (short b) (omega arith, omega arith, tt))
 
-  pub reading-code : (a : Reading) → a ≡ reading plan → Code (ofReading a .code)
-  reading-code (read.Counts n m p e) d =
+  pub reading-number : (a : Reading) → a ≡ reading plan → Number (ofReading a .first)
+  reading-number (read.Counts n m p e) d =
       let (w, is, _) = reading-counts plan (sym d) in
       let h = well-formed-range plan w .n-high in
       value (omega arith)
-  reading-code (read.Refused r) d = let (is, z) = reading-refused plan (sym d) in unread-code is z
+  reading-number (read.Refused r) d = let (is, z) = reading-refused plan (sym d) in unread-number is z
 
-  pub prepared-code : (old table old′ letters : List ℕ) (a : Prepared) → Prepares plan a old table old′ letters → Code (ofPrepared a .code)
+  pub prepared-number : (old table old′ letters : List ℕ) (a : Prepared) → Prepares plan a old table old′ letters → Number (ofPrepared a .first)
   unfolding prepareRefusal
-  prepared-code old table old′ letters (Ready k) (p, a, _, _) = let h = small plan (prepare-passes plan _ _ p) k a in value (omega arith)
-  prepared-code old table old′ letters (Refused r) (e, z, _, _) =
-      short-code (shortTable plan (length old) || shortLetters plan (length old′)) e z
-  prepared-code old table old′ letters (Unpredictable e) _ = refusal-code 15 (omega arith) (omega arith) refl
+  prepared-number old table old′ letters (Ready k) (p, a, _, _) = let h = small plan (prepare-passes plan _ _ p) k a in value (omega arith)
+  prepared-number old table old′ letters (Refused r) (e, z, _, _) =
+      short-number (shortTable plan (length old) || shortLetters plan (length old′)) e z
+  prepared-number old table old′ letters (Unpredictable e) _ = refusal-number 15 (omega arith) (omega arith) refl
 
-  pub counted-code : (old letters : List ℕ) (a : Prepared) → CountsTo plan a old letters → Code (ofPrepared a .code)
+  pub counted-number : (old letters : List ℕ) (a : Prepared) → CountsTo plan a old letters → Number (ofPrepared a .first)
   unfolding countRefusal
-  counted-code old letters (Ready k) (p, a, _) = let h = small plan (count-passes plan _ p) k a in value (omega arith)
-  counted-code old letters (Refused r) (e, z, _) = short-code (shortLetters plan (length old)) e z
-  counted-code old letters (Unpredictable e) _ = refusal-code 15 (omega arith) (omega arith) refl
+  counted-number old letters (Ready k) (p, a, _) = let h = small plan (count-passes plan _ p) k a in value (omega arith)
+  counted-number old letters (Refused r) (e, z, _) = short-number (shortLetters plan (length old)) e z
+  counted-number old letters (Unpredictable e) _ = refusal-number 15 (omega arith) (omega arith) refl
 
-  pub checked-code : (c : Evidence) (letters : List ℕ) (a : Checked) → Checks plan c letters a → Code (ofChecked a .code)
-  checked-code c letters claim.Yes _ = value (omega arith)
-  checked-code c letters claim.No _ = value (omega arith)
-  checked-code c letters (claim.Refused r) (e, z) = unread-code e z
+  pub checked-number : (c : Evidence) (letters : List ℕ) (a : Checked) → Checks plan c letters a → Number (ofChecked a .first)
+  checked-number c letters claim.Yes _ = value (omega arith)
+  checked-number c letters claim.No _ = value (omega arith)
+  checked-number c letters (claim.Refused r) (e, z) = unread-number e z
 
 -- ANSWERS ABOUT A TABLE
 
-pub walked-code : (table word old out : List ℕ) (a : Walked) → Walks table word a old out → Code (ofWalked a .code)
+pub walked-number : (table word old out : List ℕ) (a : Walked) → Walks table word a old out → Number (ofWalked a .first)
 unfolding walkRefusal
-walked-code table word old out (walked.Upto g) _ = value (omega arith)
-walked-code table word old out (walked.Refused r) (e, z, _) =
-    refused-code (walkChecks table word (length old)) (omega arith, omega arith, (omega arith, omega arith, (omega arith, omega arith, (omega arith, omega arith, tt)))) e z
+walked-number table word old out (walked.Upto g) _ = value (omega arith)
+walked-number table word old out (walked.Refused r) (e, z, _) =
+    refused-number (walkChecks table word (length old)) (omega arith, omega arith, (omega arith, omega arith, (omega arith, omega arith, (omega arith, omega arith, tt)))) e z
 
-pub judged-code : (table : List ℕ) (q a : ℕ) (word : List ℕ) (j : Judged) → Judges table q a word j → Code (ofJudged j .code)
+pub judged-number : (table : List ℕ) (q a : ℕ) (word : List ℕ) (j : Judged) → Judges table q a word j → Number (ofJudged j .first)
 unfolding verdictRefusal
-judged-code table q a word (judged.Told v) _ = value (bit (v .minimal))
+judged-number table q a word (judged.Told v) _ = value (bit (v .minimal))
   where
     bit : (b : Bool) → cond b 1 0 < 65536
     bit true = omega arith
     bit false = omega arith
-judged-code table q a word (judged.Refused r) (e, z) = refused-code (verdictChecks table q a word) (omega arith, omega arith, (omega arith, omega arith, tt)) e z
+judged-number table q a word (judged.Refused r) (e, z) = refused-number (verdictChecks table q a word) (omega arith, omega arith, (omega arith, omega arith, tt)) e z
 
-pub ended-code : (table bytes old out : List ℕ) (a : Ended) → Ends table bytes a old out → Code (ofEnded a .code)
+pub ended-number : (table bytes old out : List ℕ) (a : Ended) → Ends table bytes a old out → Number (ofEnded a .first)
 unfolding endRefusal
-ended-code table bytes old out (ended.Open c) (e, is, _) = let h = few-ended table bytes (length old) e in value (omega arith)
-ended-code table bytes old out (ended.Refused r) (e, z, _) =
-    refused-code (endChecks table bytes (length old)) (omega arith, omega arith, (omega arith, omega arith, (omega arith, omega arith, (omega arith, omega arith, tt)))) e z
+ended-number table bytes old out (ended.Open c) (e, is, _) = let h = few-ended table bytes (length old) e in value (omega arith)
+ended-number table bytes old out (ended.Refused r) (e, z, _) =
+    refused-number (endChecks table bytes (length old)) (omega arith, omega arith, (omega arith, omega arith, (omega arith, omega arith, (omega arith, omega arith, tt)))) e z
 
 -- REPLIES
 
@@ -151,10 +151,10 @@ Small n (refused r) = (1 ≤ r) × (r ≤ 15)
 Small n (resolved i x) = (x < n) × (n ≤ 64)
 Small n nothing = Unit {0}
 
-answer-code : (n : ℕ) (a : Answer) → Small n (said a) → Code (ofAnswer a .code)
-answer-code n (answer.Resolved i x) (l, h) = value (omega arith)
-answer-code n answer.Nothing _ = value (omega arith)
-answer-code n (answer.Refused r) (l, h) = refusal-code r l h refl
+answer-number : (n : ℕ) (a : Answer) → Small n (said a) → Number (ofAnswer a .first)
+answer-number n (answer.Resolved i x) (l, h) = value (omega arith)
+answer-number n answer.Nothing _ = value (omega arith)
+answer-number n (answer.Refused r) (l, h) = refusal-number r l h refl
 
 -- the first check that applies, or what is given where none does
 checked-small : (n : ℕ) (A : Type 0) (cs : List Check) (state : A) (done : Result A) → Numbered cs → (lowest cs ≡ 0 → Small n (done .reply)) → Small n (checked cs state done .reply)
@@ -214,8 +214,8 @@ module _ (table bytes : List ℕ) where
       (omega arith, omega arith, (omega arith, omega arith, (omega arith, omega arith, (omega arith, omega arith, tt)))) λ _.
       settled-small (recordCheck table bytes ∷ tidyCheck table bytes ∷ []) z (base S k r) (suc (r .fed)) w)
 
-  pub opened-code : (a : Answer) (left : List ℕ) → Opens table bytes a left → Code (ofAnswer a .code)
-  opened-code a left o = answer-code n a (opened-small a left o)
+  pub opened-number : (a : Answer) (left : List ℕ) → Opens table bytes a left → Number (ofAnswer a .first)
+  opened-number a left o = answer-number n a (opened-small a left o)
 
-  pub fed-code : (letter : ℕ) (a : Answer) (left : List ℕ) → Feeds table bytes letter a left → Code (ofAnswer a .code)
-  fed-code letter a left f = answer-code n a (fed-small letter a left f)
+  pub fed-number : (letter : ℕ) (a : Answer) (left : List ℕ) → Feeds table bytes letter a left → Number (ofAnswer a .first)
+  fed-number letter a left f = answer-number n a (fed-small letter a left f)
