@@ -1,4 +1,4 @@
-//! Links the proved library, ../target/staticlib/libcapi.a, or says how to make it.
+//! Links the proved library, ../target/staticlib/libgawherino.a, or says how to make it.
 
 use std::path::PathBuf;
 
@@ -12,13 +12,13 @@ fn main() {
         Some(folder) => PathBuf::from(folder),
         None => here.join("../target/staticlib"),
     };
-    let archive = folder.join("libcapi.a");
+    let archive = folder.join("libgawherino.a");
     println!("cargo:rerun-if-changed={}", archive.display());
     if !archive.exists() {
-        eprintln!("\nthere is no {}: run `rt staticlib capi` in the repository first", archive.display());
+        eprintln!("\nthere is no {}: run `rt staticlib gawherino` in the repository first", archive.display());
         eprintln!("(or compare the reference with plain.rs alone: --no-default-features)\n");
         std::process::exit(1);
     }
     println!("cargo:rustc-link-search=native={}", folder.display());
-    println!("cargo:rustc-link-lib=static=capi");
+    println!("cargo:rustc-link-lib=static=gawherino");
 }

@@ -1,9 +1,9 @@
-// From plan bytes to a look-ahead: preparing, the count call and the drawing program's entry.
+// From plan bytes to a look-ahead: preparing and the count call.
 // The look-ahead itself is found by crate lookahead, from successor sets; here plans are read and loaded, and buffers judged.
 ghost use mathlib.Core.Path.{_≡_};
 ghost use Prim.Native.Nat.{_*_};
 ghost use Rattle.plan.specs.Bytes.{headerOf, WellFormed};
-ghost use Rattle.prepare.specs.Preparing.{Prepares, CountsTo, Draws};
+ghost use Rattle.prepare.specs.Preparing.{Prepares, CountsTo};
 use lookahead::Answer;
 use lookahead::Evidence;
 use plan::Reading;
@@ -80,19 +80,5 @@ pub fn count(plan: &[u8], letters: &mut [u8]) -> Prepared
     match reading {
         Reading::Refused(r) => Prepared::Refused(r),
         Reading::Counts { n, m, p: _, e: _ } => count_sound(plan, n as usize, m as usize, letters),
-    }
-}
-
-// The drawing program's entry: the look-ahead, or 65,536 plus the refusal.
-#[no_mangle]
-pub extern "C" fn gawherino_count(plan: &[u8]) -> u32
-    ensures { λ r. ⌜ Draws (now (plan .entry)) r ⌝ }
-{
-    let mut letters = [0u8; 4096];
-    let counted = count(plan, &mut letters);
-    match counted {
-        Prepared::Ready(k) => k as u32,
-        Prepared::Refused(r) => 65536 + r as u32,
-        Prepared::Unpredictable(_) => 65536 + 15,
     }
 }

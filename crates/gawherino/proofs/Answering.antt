@@ -1,0 +1,221 @@
+-- The numbers of answers: refusals are 1 to 15, and values are small.
+-- Assumes nothing.
+use Prim.Native.Nat.{ℕ, suc, _-_, _≤_, _<_}
+use mathlib.Core.Bool.{Bool, true, false, cond, not, _||_}
+use mathlib.Core.Option.{Option, some, none}
+use mathlib.Core.Path.{_≡_, refl, sym, subst}
+use mathlib.Core.Logic.{_⊎_, inl, inr}
+use mathlib.Core.List.{List, [], _∷_, _++_}
+use native.Mathlib.Omega.{arith}
+use lib.Dec.{ltb}
+use lib.ListN.{length}
+use Rattle.bitset.specs.Sets.{any}
+use Rattle.bitset.proofs.Tests.{decided}
+use Rattle.semiautomata.specs.Semiautomaton.{Semiautomaton}
+use Rattle.semiautomata.specs.Calls.{Reply, refused, resolved, nothing, Result, Check, checked, lowest}
+use Rattle.semiautomata.specs.Streaming.{base, soleAt, resolve, settle, settled, unopened, opened, feedChecks, feed}
+use Rattle.semiautomata.proofs.Streaming.{at-sole}
+use Rattle.plan.specs.Bytes.{planChecks, refusal, reading}
+use Rattle.plan.specs.declared.Reading.{Reading}
+use Rattle.plan.specs.declared.Reading.the-variants as read
+use Rattle.plan.proofs.Refusals.{well-formed-range}
+use Rattle.plan.proofs.Readings.{reading-refused, reading-counts}
+use Rattle.table.specs.Table.{statesOf, lookaheadOf, tableMeaning, unfit}
+use Rattle.table.proofs.Fitness.{fitting}
+use Rattle.prepare.specs.declared.Prepared.{Prepared}
+use Rattle.prepare.specs.declared.Prepared.the-variants.{Ready, Refused, Unpredictable}
+use Rattle.prepare.specs.Preparing.{short, shortTable, shortLetters, countRefusal, prepareRefusal, Prepares, CountsTo}
+use Rattle.prepare.proofs.Refusals.{count-passes, prepare-passes}
+use Rattle.prepare.proofs.Answers.{small}
+use Rattle.lookahead.specs.declared.Evidence.{Evidence}
+use Rattle.claim.specs.declared.Checked.{Checked}
+use Rattle.claim.specs.declared.Checked.the-variants as claim
+use Rattle.claim.specs.Checking.{Checks}
+use Rattle.simulate.specs.declared.Walked.{Walked}
+use Rattle.simulate.specs.declared.Walked.the-variants as walked
+use Rattle.simulate.specs.Walking.{walkChecks, walkRefusal, Walks}
+use Rattle.simulate.specs.declared.Judged.{Judged}
+use Rattle.simulate.specs.declared.Judged.the-variants as judged
+use Rattle.simulate.specs.Verdicts.{verdictChecks, verdictRefusal, Judges}
+use Rattle.predictor.specs.declared.Answer.{Answer}
+use Rattle.predictor.specs.declared.Answer.the-variants as answer
+use Rattle.predictor.specs.Replies.{said}
+use Rattle.predictor.specs.declared.Ended.{Ended}
+use Rattle.predictor.specs.declared.Ended.the-variants as ended
+use Rattle.predictor.specs.Calls.{tableCheck, recordCheck, tidyCheck, onto, openedOn, fedOn, Opens, Feeds, endChecks, endRefusal, Ends}
+use Rattle.records.specs.Bytes.{decode}
+use Rattle.gawherino.specs.Numbers.{Numbers, refusing, ofReading, ofPrepared, ofChecked, ofWalked, ofJudged, ofAnswer, ofEnded, Gives, answers, refuses}
+use Rattle.gawherino.specs.Theorems.{Number, value, refusal as refusal-number}
+use Rattle.gawherino.proofs.Endings.{few-ended}
+
+-- CHECKS IN ORDER
+
+-- their numbers are those of refusals
+abbrev pub Numbered : List Check → Type 0
+Numbered [] = Unit {0}
+Numbered (c ∷ cs) = (1 ≤ c .number) × (c .number ≤ 15) × Numbered cs
+
+lowest-le : (cs : List Check) → Numbered cs → lowest cs ≤ 15
+lowest-le [] _ = omega arith
+lowest-le (c ∷ cs) (_, h, n) = go (decided (c .applies)) (lowest-le cs n)
+  where
+    go : (c .applies ≡ true) ⊎ (c .applies ≡ false) → lowest cs ≤ 15 → lowest (c ∷ cs) ≤ 15
+    go (inl a) ih = rw a h
+    go (inr a) ih = rw a ih
+
+pub refused-number : (cs : List Check) → Numbered cs → {r : ℕ} → r ≡ lowest cs → ¬ (r ≡ 0) → Number (refusing r)
+refused-number cs n {r} e z = let h = lowest-le cs n in refusal-number r (omega (arith, z)) (omega (arith, h, e)) refl
+
+-- for want of room some refusal is given
+no-room : (cs : List Check) → Numbered cs → (1 ≤ lowest (cs ++ short true)) × (lowest (cs ++ short true) ≤ 15)
+no-room [] _ = (omega arith, omega arith)
+no-room (c ∷ cs) (l, h, n) = go (decided (c .applies)) (no-room cs n)
+  where
+    go : (c .applies ≡ true) ⊎ (c .applies ≡ false) → (1 ≤ lowest (cs ++ short true)) × (lowest (cs ++ short true) ≤ 15)
+        → (1 ≤ lowest (c ∷ (cs ++ short true))) × (lowest (c ∷ (cs ++ short true)) ≤ 15)
+    go (inl a) ih = rw a (l, h)
+    go (inr a) ih = rw a ih
+
+pub gives-number : {A : Type 0} {numbers : A → Numbers} {room : ℕ} {before : List Check} {Meets : A → Type 0} {Kept : Type 0} {r : ℕ} {old more : List ℕ}
+    → Numbered before → ((a : A) → Meets a → Number (numbers a .first)) → Gives numbers room before Meets Kept r old more → Number r
+gives-number n f (answers _ a m p) = rw (p .answered) (f a m)
+gives-number {before = before} n f (refuses _ e _ _) = let (l, h) = no-room before n in refusal-number _ l h e
+
+pub plan-numbered : (plan : List ℕ) (more : List Check) → Numbered more → Numbered (planChecks plan ++ more)
+plan-numbered plan more n =
+    (omega arith, omega arith, (omega arith, omega arith, (omega arith, omega arith, (omega arith, omega arith, (omega arith, omega arith, (omega arith, omega arith, (omega arith, omega arith, n)))))))
+
+-- ANSWERS ABOUT A PLAN
+
+module _ (plan : List ℕ) where
+  pub unread-number : {r : ℕ} → r ≡ refusal plan → ¬ (r ≡ 0) → Number (refusing r)
+  unfolding refusal
+  unread-number = refused-number (planChecks plan) (plan-numbered plan [] tt)
+
+  short-number : (b : Bool) {r : ℕ} → r ≡ lowest (planChecks plan ++ short b) → ¬ (r ≡ 0) → Number (refusing r)
+  short-number b = refused-number (planChecks plan ++ short b) (plan-numbered plan (short b) (omega arith, omega arith, tt))
+
+  pub reading-number : (a : Reading) → a ≡ reading plan → Number (ofReading a .first)
+  reading-number (read.Counts n m p e) d =
+      let (w, is, _) = reading-counts plan (sym d) in
+      let h = well-formed-range plan w .n-high in
+      value (omega arith)
+  reading-number (read.Refused r) d = let (is, z) = reading-refused plan (sym d) in unread-number is z
+
+  pub prepared-number : (old table old′ letters : List ℕ) (a : Prepared) → Prepares plan a old table old′ letters → Number (ofPrepared a .first)
+  unfolding prepareRefusal
+  prepared-number old table old′ letters (Ready k) (p, a, _, _) = let h = small plan (prepare-passes plan _ _ p) k a in value (omega arith)
+  prepared-number old table old′ letters (Refused r) (e, z, _, _) =
+      short-number (shortTable plan (length old) || shortLetters plan (length old′)) e z
+  prepared-number old table old′ letters (Unpredictable e) _ = refusal-number 15 (omega arith) (omega arith) refl
+
+  pub counted-number : (old letters : List ℕ) (a : Prepared) → CountsTo plan a old letters → Number (ofPrepared a .first)
+  unfolding countRefusal
+  counted-number old letters (Ready k) (p, a, _) = let h = small plan (count-passes plan _ p) k a in value (omega arith)
+  counted-number old letters (Refused r) (e, z, _) = short-number (shortLetters plan (length old)) e z
+  counted-number old letters (Unpredictable e) _ = refusal-number 15 (omega arith) (omega arith) refl
+
+  pub checked-number : (c : Evidence) (letters : List ℕ) (a : Checked) → Checks plan c letters a → Number (ofChecked a .first)
+  checked-number c letters claim.Yes _ = value (omega arith)
+  checked-number c letters claim.No _ = value (omega arith)
+  checked-number c letters (claim.Refused r) (e, z) = unread-number e z
+
+-- ANSWERS ABOUT A TABLE
+
+pub walked-number : (table word old out : List ℕ) (a : Walked) → Walks table word a old out → Number (ofWalked a .first)
+unfolding walkRefusal
+walked-number table word old out (walked.Upto g) _ = value (omega arith)
+walked-number table word old out (walked.Refused r) (e, z, _) =
+    refused-number (walkChecks table word (length old)) (omega arith, omega arith, (omega arith, omega arith, (omega arith, omega arith, (omega arith, omega arith, tt)))) e z
+
+pub judged-number : (table : List ℕ) (q a : ℕ) (word : List ℕ) (j : Judged) → Judges table q a word j → Number (ofJudged j .first)
+unfolding verdictRefusal
+judged-number table q a word (judged.Told v) _ = value (bit (v .minimal))
+  where
+    bit : (b : Bool) → cond b 1 0 < 65536
+    bit true = omega arith
+    bit false = omega arith
+judged-number table q a word (judged.Refused r) (e, z) = refused-number (verdictChecks table q a word) (omega arith, omega arith, (omega arith, omega arith, tt)) e z
+
+pub ended-number : (table bytes old out : List ℕ) (a : Ended) → Ends table bytes a old out → Number (ofEnded a .first)
+unfolding endRefusal
+ended-number table bytes old out (ended.Open c) (e, is, _) = let h = few-ended table bytes (length old) e in value (omega arith)
+ended-number table bytes old out (ended.Refused r) (e, z, _) =
+    refused-number (endChecks table bytes (length old)) (omega arith, omega arith, (omega arith, omega arith, (omega arith, omega arith, (omega arith, omega arith, tt)))) e z
+
+-- REPLIES
+
+-- a refusal's number, or one of n states, at most 64
+abbrev pub Small : ℕ → Reply → Type 0
+Small n (refused r) = (1 ≤ r) × (r ≤ 15)
+Small n (resolved i x) = (x < n) × (n ≤ 64)
+Small n nothing = Unit {0}
+
+answer-number : (n : ℕ) (a : Answer) → Small n (said a) → Number (ofAnswer a .first)
+answer-number n (answer.Resolved i x) (l, h) = value (omega arith)
+answer-number n answer.Nothing _ = value (omega arith)
+answer-number n (answer.Refused r) (l, h) = refusal-number r l h refl
+
+-- the first check that applies, or what is given where none does
+checked-small : (n : ℕ) (A : Type 0) (cs : List Check) (state : A) (done : Result A) → Numbered cs → (lowest cs ≡ 0 → Small n (done .reply)) → Small n (checked cs state done .reply)
+checked-small n A [] state done _ f = f refl
+checked-small n A (c ∷ cs) state done (l, h, m) f = go (decided (c .applies)) (checked-small n A cs state done m)
+  where
+    go : (c .applies ≡ true) ⊎ (c .applies ≡ false) → ((lowest cs ≡ 0 → Small n (done .reply)) → Small n (checked cs state done .reply))
+        → Small n (checked (c ∷ cs) state done .reply)
+    go (inl a) ih = rw a (l, h)
+    go (inr a) ih = rw a (ih (λ z. f (rw a z)))
+
+settle-small : (S : Semiautomaton) → S .n ≤ 64 → (k : ℕ) (X : ℕ → Bool) (fed : ℕ) (w : List ℕ) → Small (S .n) (settle S k X fed w)
+unfolding settle
+settle-small S h k X fed w = due (ltb fed k)
+  where
+    sole : (o : Option ℕ) → soleAt S X w (length w - k) ≡ o → Small (S .n) (resolve (fed - k) o)
+    sole (some x) e = (at-sole S X w (length w - k) x e .below, h)
+    sole none e = (omega arith, omega arith)
+
+    due : (b : Bool) → Small (S .n) (cond b nothing (resolve (fed - k) (soleAt S X w (length w - k))))
+    due true = tt
+    due false = sole (soleAt S X w (length w - k)) refl
+
+module _ (table bytes : List ℕ) where
+  abbrev S : Semiautomaton
+  S = tableMeaning table
+
+  abbrev k : ℕ
+  k = lookaheadOf table
+
+  abbrev n : ℕ
+  n = statesOf table
+
+  -- where 8 does not apply
+  settled-small : (cs : List Check) → lowest (tableCheck table ∷ cs) ≡ 0 → (X : ℕ → Bool) (fed : ℕ) (w : List ℕ) → Small n (settle S k X fed w)
+  settled-small cs e = elim (decided (unfit table)) [
+    | inl u ↦ let z : _≡_ {A = ℕ} 8 0 = rw u at e in absurd (omega arith)
+    | inr u ↦ settle-small S (fitting table u .states) k
+  ]
+
+  pub opened-small : (a : Answer) (left : List ℕ) → Opens table bytes a left → Small n (said a)
+  unfolding openedOn opened
+  opened-small a left (e, _) = subst (Small n) (sym e)
+      (checked-small n _ (tableCheck table ∷ recordCheck table bytes ∷ []) bytes (onto k bytes (opened S k)) (omega arith, omega arith, (omega arith, omega arith, tt)) λ z.
+      checked-small n _ (record { number = 13; applies = not (any (S .n) (S .initial)) } ∷ []) unopened (settled S k (S .initial) unopened 0 []) (omega arith, omega arith, tt) λ _.
+      settled-small (recordCheck table bytes ∷ []) z (S .initial) 0 [])
+
+  pub fed-small : (letter : ℕ) (a : Answer) (left : List ℕ) → Feeds table bytes letter a left → Small n (said a)
+  unfolding fedOn feed
+  fed-small letter a left (e, _) =
+      let r = decode bytes in
+      let w = r .held ++ (letter ∷ []) in
+      subst (Small n) (sym e)
+      (checked-small n _ (tableCheck table ∷ recordCheck table bytes ∷ tidyCheck table bytes ∷ []) bytes (onto k bytes (feed S k r letter))
+      (omega arith, omega arith, (omega arith, omega arith, (omega arith, omega arith, tt))) λ z.
+      checked-small n _ (feedChecks S k r letter) r (settled S k (base S k r) r (suc (r .fed)) w)
+      (omega arith, omega arith, (omega arith, omega arith, (omega arith, omega arith, (omega arith, omega arith, tt)))) λ _.
+      settled-small (recordCheck table bytes ∷ tidyCheck table bytes ∷ []) z (base S k r) (suc (r .fed)) w)
+
+  pub opened-number : (a : Answer) (left : List ℕ) → Opens table bytes a left → Number (ofAnswer a .first)
+  opened-number a left o = answer-number n a (opened-small a left o)
+
+  pub fed-number : (letter : ℕ) (a : Answer) (left : List ℕ) → Feeds table bytes letter a left → Number (ofAnswer a .first)
+  fed-number letter a left f = answer-number n a (fed-small letter a left f)

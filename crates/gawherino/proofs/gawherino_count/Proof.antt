@@ -1,0 +1,73 @@
+-- `gawherino_count` meets its contract.
+-- Assumes nothing.
+use native.Mathlib.Omega.{arith}
+use denote.Ref.{now}
+use Rattle.prepare.proofs.Theorems.{shown-never}
+use Rattle.prepare.specs.Preparing.{refuses, looks-ahead, never}
+use Rattle.prepare.proofs.Refusals.{count-passes, count-refuses}
+use Rattle.prepare.proofs.Answers.{small}
+use borrow.Author.Needs.{needs}
+use Rattle.gawherino.proofs.gawherino_count.Statement.{statement}
+use Rattle.gawherino.proofs.gawherino_count.Tie as tie
+
+slice-aggregate-count : tie.Need-slice-aggregate-count
+slice-aggregate-count c = search needs
+
+count-requires : tie.Need-count-requires
+count-requires c κs = search needs
+
+enum-known-counted : tie.Need-enum-known-counted
+enum-known-counted c = search needs
+
+cast-result : tie.Need-cast-result
+cast-result c =
+    let (p, a, _) = rw (c .before .counted .given .1) at (c .before .before .before .before .count .ensures) in
+    omega (arith, small (now (c .before .before .before .before .before .before .before .args .plan)) (count-passes (now (c .before .before .before .before .before .before .before .args .plan)) 4096 p) _ a)
+
+enum-known-counted-2 : tie.Need-enum-known-counted-2
+enum-known-counted-2 c = search needs
+
+cast-result-2 : tie.Need-cast-result-2
+cast-result-2 c = search needs
+
+add-result : tie.Need-add-result
+add-result c = search needs
+
+enum-told : tie.Need-enum-told
+enum-told c = search needs
+
+add-result-2 : tie.Need-add-result-2
+add-result-2 c = search needs
+
+returns : tie.Need-returns
+returns c =
+    let (p, a, _) = rw (c .before .counted .given .1) at (c .before .before .before .before .count .ensures) in
+    looks-ahead _ (count-passes (now (c .before .before .before .before .before .before .before .args .plan)) 4096 p) a
+
+returns-2 : tie.Need-returns-2
+returns-2 c =
+    let (a, n, _) = rw (c .before .counted2 .given .1) at (c .before .before .before .before .count .ensures) in
+    let (e, ill) = count-refuses (now (c .before .before .before .before .before .before .before .args .plan)) a n in
+    rw e (refuses ill)
+
+returns-3 : tie.Need-returns-3
+returns-3 c =
+    let (p, s) = rw (c .enum-told .given .1) at (c .before .before .before .count .ensures) in
+    never (count-passes (now (c .before .before .before .before .before .before .args .plan)) 4096 p) (shown-never s)
+
+pub gawherino-count-spec : {M : Type 1} → statement M
+gawherino-count-spec =
+    tie.close
+    (tie.spec
+    slice-aggregate-count
+    count-requires
+    enum-known-counted
+    cast-result
+    enum-known-counted-2
+    cast-result-2
+    add-result
+    enum-told
+    add-result-2
+    returns
+    returns-2
+    returns-3)
