@@ -3,21 +3,27 @@
 use Prim.Native.Nat.{ℕ}
 use mathlib.Core.Bool.{Bool, true, false}
 use mathlib.Core.Option.{some, none}
+use mathlib.Core.Logic.{_↔_}
 use mathlib.Core.Path.{_≡_}
 use mathlib.Core.List.{List}
 use Rattle.bitset.specs.Sets.{has, setOf}
 use Rattle.semiautomata.specs.Semiautomaton.{Semiautomaton, Path}
 use Rattle.semiautomata.specs.Predictability.{Critical, member, named, Lasso}
-use Rattle.plan.specs.Bytes.{meaning, refusal, WellFormed}
+use Rattle.semiautomata.specs.Outcomes.{Outcome, refused, answered, Gives}
+use Rattle.plan.specs.Bytes.{meaning, refusal}
 use Rattle.lookahead.specs.declared.Evidence.{Evidence}
 use Rattle.lookahead.specs.Answers.{TrueOf}
 use Rattle.claim.specs.declared.Checked.{Checked}
 use Rattle.claim.specs.declared.Checked.the-variants.{Refused, Yes, No}
 
+-- What the check answers: yes or no.
+abbrev pub outcomeOfChecked : Checked → Outcome Bool
+outcomeOfChecked Yes = answered true
+outcomeOfChecked No = answered false
+outcomeOfChecked (Refused r) = refused r
+
 abbrev pub Checks : List ℕ → Evidence → List ℕ → Checked → Type 0
-Checks plan c letters (Refused r) = (r ≡ refusal plan) × ¬ (r ≡ 0)
-Checks plan c letters Yes = WellFormed plan × TrueOf (meaning plan) c letters
-Checks plan c letters No = WellFormed plan × ¬ TrueOf (meaning plan) c letters
+Checks plan c letters a = Gives (refusal plan) Unit (λ yes. (yes ≡ true) ↔ TrueOf (meaning plan) c letters) (outcomeOfChecked a)
 
 -- The number is the set that two numbers name; 0 where they name none.
 pub record NamedSet (S : Semiautomaton) (q a set : ℕ) : Type 0 where

@@ -8,6 +8,7 @@ use lib.Dec.{eqb, ltb, leb}
 use lib.ListN.{length, getD}
 use Rattle.semiautomata.specs.Semiautomaton.{Semiautomaton}
 use Rattle.semiautomata.specs.Calls.{Check, lowest}
+use Rattle.semiautomata.specs.Outcomes.{Outcome, refused, answered}
 use Rattle.semiautomata.specs.Plan.{Line, Plan, semiautomaton, countOff, startOff, lineOff, lineTwice}
 use Rattle.plan.specs.declared.Header.{Header}
 use Rattle.plan.specs.declared.Reading.{Reading}
@@ -85,8 +86,18 @@ abbrev pub WellFormed : List ℕ → Type 0
 WellFormed plan = refusal plan ≡ 0
 
 -- What reading answers: n, m, p and e, or the refusal.
-abbrev pub counts : Header → Reading
-counts h = Counts (h .n) (h .m) (h .p) (h .e)
+pub record PlanCounts : Type 0 where
+  pub n : ℕ
+  pub m : ℕ
+  pub p : ℕ
+  pub e : ℕ
 
-abbrev pub reading : List ℕ → Reading
-reading plan = cond (eqb (refusal plan) 0) (counts (headerOf plan)) (Refused (refusal plan))
+abbrev pub outcomeOfReading : Reading → Outcome PlanCounts
+outcomeOfReading (Counts n m p e) = answered (record { n = n; m = m; p = p; e = e })
+outcomeOfReading (Refused r) = refused r
+
+abbrev pub counts : Header → PlanCounts
+counts h = record { n = h .n; m = h .m; p = h .p; e = h .e }
+
+abbrev pub reading : List ℕ → Outcome PlanCounts
+reading plan = cond (eqb (refusal plan) 0) (answered (counts (headerOf plan))) (refused (refusal plan))

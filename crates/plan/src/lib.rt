@@ -6,7 +6,7 @@ ghost use Prim.Native.Nat.{ℕ, _+_, _*_, _≤_, _<_};
 ghost use lib.ListN.{length, getD};
 ghost use Rattle.bitset.specs.Sets.{setOf};
 ghost use Rattle.semiautomata.specs.Plan.{countOff, startOff, lineOff, lineTwice};
-ghost use Rattle.plan.specs.Bytes.{number, headerOf, misplaced, parsed, meaning, refusal, reading, WellFormed};
+ghost use Rattle.plan.specs.Bytes.{number, headerOf, misplaced, parsed, meaning, refusal, outcomeOfReading, reading, WellFormed};
 ghost use Rattle.plan.specs.Loading.{Sound, partsRefusal, IsLine, Entered, Loaded};
 
 pub mod group;
@@ -208,7 +208,7 @@ fn refusal_of(plan: &[u8]) -> u8
 
 // n, m, p and e of a plan, or its lowest refusal.
 pub fn read(plan: &[u8]) -> Reading
-    ensures { λ r. ⌜ r ≡ reading (now (plan .entry)) ⌝ }
+    ensures { λ r. ⌜ outcomeOfReading r ≡ reading (now (plan .entry)) ⌝ }
 {
     let refused = refusal_of(plan);
     if refused != 0 {

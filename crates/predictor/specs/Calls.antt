@@ -9,6 +9,8 @@ use lib.Dec.{ltb}
 use lib.ListN.{length, drop}
 use Rattle.bitset.specs.Sets.{setOf}
 use Rattle.semiautomata.specs.Calls.{Reply, refused, resolved, nothing, Result, Check, checked, lowest}
+use Rattle.semiautomata.specs.Outcomes.{Outcome, answered, Gives}
+use Rattle.semiautomata.specs.Outcomes as outcomes
 use Rattle.semiautomata.specs.Streaming.{Rec, opened, feed, finish, soundCheck}
 use Rattle.table.specs.Table.{statesOf, lookaheadOf, tableMeaning, unfit}
 use Rattle.predictor.specs.declared.Answer.{Answer}
@@ -68,7 +70,13 @@ endRefusal table bytes sets = lowest (endChecks table bytes sets)
 abbrev pub ended : List ℕ → List ℕ → List ℕ
 ended table bytes = map (setOf (statesOf table)) (finish (tableMeaning table) (lookaheadOf table) (decode bytes))
 
+-- What ending answers: how many they are.
+abbrev pub outcomeOfEnded : Ended → Outcome ℕ
+outcomeOfEnded (Open c) = answered c
+outcomeOfEnded (Refused r) = outcomes.refused r
+
+-- What ending gives; a refusal writes nothing.
 abbrev pub Ends : List ℕ → List ℕ → Ended → List ℕ → List ℕ → Type 0
-Ends table bytes (Refused r) old out = (r ≡ endRefusal table bytes (length old)) × ¬ (r ≡ 0) × (out ≡ old)
-Ends table bytes (Open c) old out =
-    (endRefusal table bytes (length old) ≡ 0) × (c ≡ length (ended table bytes)) × (out ≡ ended table bytes ++ drop (length (ended table bytes)) old)
+Ends table bytes a old out =
+    Gives (endRefusal table bytes (length old)) (out ≡ old)
+    (λ c. (c ≡ length (ended table bytes)) × (out ≡ ended table bytes ++ drop (length (ended table bytes)) old)) (outcomeOfEnded a)

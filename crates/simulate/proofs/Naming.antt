@@ -46,16 +46,16 @@ fork-set n m starts sets q a h g = fun-ext (λ t. sym (edge-is n m starts sets q
 module _ (table : List ℕ) (q a : ℕ) (w : List ℕ) where
   pub unfit-refused : unfit table ≡ true → Judges table q a w (Refused 8)
   unfolding verdictRefusal
-  unfit-refused e = (rw e, λ z. omega arith)
+  unfit-refused e = (rw e, λ z. omega arith, tt)
 
   module _ (f : unfit table ≡ false) where
     pub letter-refused : letterOff (lettersOf table) w ≡ true → Judges table q a w (Refused 12)
     unfolding verdictRefusal
-    letter-refused e = (rw (f, or-right (unnamed (named (tableMeaning table) q a)) (letterOff (lettersOf table) w) e), λ z. omega arith)
+    letter-refused e = (rw (f, or-right (unnamed (named (tableMeaning table) q a)) (letterOff (lettersOf table) w) e), λ z. omega arith, tt)
 
     pub name-refused : named (tableMeaning table) q a ≡ none → Judges table q a w (Refused 12)
     unfolding verdictRefusal
-    name-refused e = (rw (f, e), λ z. omega arith)
+    name-refused e = (rw (f, e), λ z. omega arith, tt)
 
     pub told : letterOff (lettersOf table) w ≡ false → (T : Critical) → named (tableMeaning table) q a ≡ some T → {v : Verdict}
         → Computes (tableMeaning table) (member (tableMeaning table) T) w v → Judges table q a w (Told v)

@@ -12,6 +12,7 @@ use Rattle.semiautomata.specs.Predictability.{Critical, member, named}
 use Rattle.semiautomata.specs.Walks.{spells, survivors}
 use Rattle.semiautomata.specs.Selectors.{Survives, MinimalSelector, MaximalNonselector, minimalSelector, maximalNonselector}
 use Rattle.semiautomata.specs.Calls.{Check, lowest}
+use Rattle.semiautomata.specs.Outcomes.{Outcome, refused, answered, Gives}
 use Rattle.table.specs.Table.{lettersOf, tableMeaning, unfit}
 use Rattle.walks.specs.Walking.{letterOff}
 use Rattle.simulate.specs.Walking.{Stands}
@@ -39,10 +40,17 @@ pub record Tells (S : Semiautomaton) (T : Critical) (word : List ℕ) (v : Verdi
   pub minimal : (v .minimal ≡ true) ↔ MinimalSelector S (member S T) word
   pub nonselected : Stands (S .n) (MaximalNonselector S (member S T) word) (v .nonselected)
 
+-- What a verdict answers: the two sets, and whether the word is a minimal selector.
+abbrev pub outcomeOfJudged : Judged → Outcome Verdict
+outcomeOfJudged (Told v) = answered v
+outcomeOfJudged (Refused r) = refused r
+
+-- The verdict on a word for the critical set that two numbers name.
+abbrev pub TellsOf : List ℕ → ℕ → ℕ → List ℕ → Verdict → Type 0
+TellsOf table q a word v = (T : Critical) → named (tableMeaning table) q a ≡ some T → Tells (tableMeaning table) T word v
+
 abbrev pub Judges : List ℕ → ℕ → ℕ → List ℕ → Judged → Type 0
-Judges table q a word (Refused r) = (r ≡ verdictRefusal table q a word) × ¬ (r ≡ 0)
-Judges table q a word (Told v) =
-    (verdictRefusal table q a word ≡ 0) × ((T : Critical) → named (tableMeaning table) q a ≡ some T → Tells (tableMeaning table) T word v)
+Judges table q a word r = Gives (verdictRefusal table q a word) Unit (TellsOf table q a word) (outcomeOfJudged r)
 
 -- THE SAME AS TESTS THAT COMPUTE
 

@@ -9,6 +9,7 @@ use lib.Dec.{ltb}
 use lib.ListN.{length, getD, drop}
 use Rattle.bitset.specs.Sets.{any, has}
 use Rattle.semiautomata.specs.Calls.{Check, lowest}
+use Rattle.semiautomata.specs.Outcomes.{Outcome, refused, answered, Gives}
 use Rattle.semiautomata.specs.Walks.{Longest, PossibleAt}
 use Rattle.walks.specs.Walking.{letterOff}
 use Rattle.table.specs.Table.{statesOf, lettersOf, tableMeaning, unfit}
@@ -31,10 +32,19 @@ pub record Stands (n : ℕ) (P : ℕ → Type 0) (set : ℕ) : Type 0 where
   pub fits : set < 2 ^ n
   pub is : (x : ℕ) → (has set x ≡ true) ↔ P x
 
--- What a whole walk gives: a refusal writes nothing; else g, with the possible states at 0 to g, and the rest of the buffer as it was.
-abbrev pub Walks : List ℕ → List ℕ → Walked → List ℕ → List ℕ → Type 0
-Walks table word (Refused r) old out = (r ≡ walkRefusal table word (length old)) × ¬ (r ≡ 0) × (out ≡ old)
-Walks table word (Upto g) old out =
-    (walkRefusal table word (length old) ≡ 0) × Longest (tableMeaning table) word g
+-- What a whole walk answers: g.
+abbrev pub outcomeOfWalked : Walked → Outcome ℕ
+outcomeOfWalked (Upto g) = answered g
+outcomeOfWalked (Refused r) = refused r
+
+-- .. and writes: the possible states at 0 to g, and the rest of the buffer as it was.
+abbrev pub Traces : List ℕ → List ℕ → List ℕ → List ℕ → ℕ → Type 0
+Traces table word old out g =
+    Longest (tableMeaning table) word g
     × ((i : ℕ) → i ≤ g → Stands (statesOf table) (PossibleAt (tableMeaning table) word i) (getD out i 0))
     × (drop (suc g) out ≡ drop (suc g) old)
+    × (length out ≡ length old)
+
+-- What a whole walk gives; a refusal writes nothing.
+abbrev pub Walks : List ℕ → List ℕ → Walked → List ℕ → List ℕ → Type 0
+Walks table word a old out = Gives (walkRefusal table word (length old)) (out ≡ old) (Traces table word old out) (outcomeOfWalked a)

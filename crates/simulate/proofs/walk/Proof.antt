@@ -123,7 +123,7 @@ returns-5 c =
     let W = fit (first t) .within in
     let table = start (first t) .args .table .now in
     let o = rw (lent 4 table) at (c .before .before .trace .ensures .1 (initialOf table)) in
-    (rw (sound (first t), long (t .before .before .before .before .before), on (t .before .before), some t), l, written-stands _ W _ _ l o, written-kept _ W _ _ l o)
+    (rw (sound (first t), long (t .before .before .before .before .before), on (t .before .before), some t), (l, written-stands _ W _ _ l o, written-kept _ W _ _ l o, c .before .before .trace .kept .1 .1 .1 .1 .1 .0))
 
 pub walk-spec : {M : Type 1} → statement M
 walk-spec =
