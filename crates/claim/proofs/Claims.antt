@@ -4,7 +4,7 @@ use Prim.Native.Nat.{ℕ, zero, suc, _+_, _-_, _*_, _%_, _^_, _≤_, _<_}
 use mathlib.Core.Bool.{Bool, true, false, not, _&&_, _||_, true≢false, false≢true, and-true, and-false}
 use mathlib.Core.Option.{Option, some, none}
 use mathlib.Core.Path.{_≡_, refl, sym, _∙_, subst, fun-ext}
-use mathlib.Core.Logic.{inl, inr}
+use mathlib.Core.Logic.{_↔_, inl, inr}
 use mathlib.Core.List.{List, [], _∷_, _++_}
 use native.Mathlib.Omega.{arith}
 use lib.Bits.{bitAnd}
@@ -311,3 +311,10 @@ module _ {plan old sets : List ℕ} {n m starts : ℕ} (n-is : n ≡ headerOf pl
 
   pub read-no : {k : Evidence} {letters : List ℕ} → ¬ TrueOf (successors n m starts sets) k letters → ¬ TrueOf (meaning plan) k letters
   read-no {k} {letters} f c = f (subst (λ (S : Semiautomaton). TrueOf S k letters) (sym read-means) c)
+
+-- the answer and what it says
+pub yes-so : {P : Type 0} → P → (_≡_ {A = Bool} true true) ↔ P
+yes-so p = (λ _. p, λ _. refl)
+
+pub no-so : {P : Type 0} → ¬ P → (_≡_ {A = Bool} false true) ↔ P
+no-so n = (λ e. absurd (false≢true e), λ p. absurd (n p))

@@ -11,9 +11,10 @@ use borrow.Author.Tests.{lt-ltb, le-ltb, ltb-false, leb-true, eq-eqb, eqb-true, 
 use Rattle.bitset.proofs.Tests.{and-out}
 use Rattle.semiautomata.specs.Semiautomaton.{Within}
 use Rattle.semiautomata.specs.Plan.{within, countOff, startHigh, startOff, lineOff, lineTwice}
+use Rattle.semiautomata.proofs.Lowest.{Numbered, lowest-le}
 use Rattle.semiautomata.proofs.Plan.{plan-within}
 use Rattle.plan.specs.declared.Header.{Header}
-use Rattle.plan.specs.Bytes.{headerOf, lineWidth, parsed, meaning, placed, misplaced, refusal, WellFormed}
+use Rattle.plan.specs.Bytes.{headerOf, lineWidth, parsed, meaning, placed, misplaced, planChecks, refusal, WellFormed}
 use Rattle.plan.specs.Loading.{Sound, partsRefusal}
 
 or-none : (a b : Bool) → (a || b) ≡ false → (a ≡ false) × (b ≡ false)
@@ -171,3 +172,28 @@ module _ (plan : List ℕ) (w : WellFormed plan) where
 
   pub well-formed-within : Within (meaning plan)
   well-formed-within = plan-within (parsed plan) (or-none (startHigh (parsed plan)) _ (well-formed .starts) .0) (well-formed .lines)
+
+-- THEIR NUMBERS
+
+pub plan-numbered : (plan : List ℕ) → Numbered 7 (planChecks plan)
+plan-numbered plan = (
+  omega arith,
+  omega arith,
+  (
+    omega arith,
+    omega arith,
+    (
+      omega arith,
+      omega arith,
+      (
+        omega arith,
+        omega arith,
+        (omega arith, omega arith, (omega arith, omega arith, (omega arith, omega arith, tt))),
+      ),
+    ),
+  ),
+)
+
+pub refusal-le : (plan : List ℕ) → refusal plan ≤ 7
+unfolding refusal
+refusal-le plan = lowest-le 7 (planChecks plan) (plan-numbered plan)

@@ -1,7 +1,7 @@
 -- The refusals of preparing and of the count call, from the reader's and the lent lengths.
 -- Assumes nothing.
 use Prim.Native.Nat.{ℕ, _+_, _*_, _≤_, _<_}
-use mathlib.Core.Bool.{true, false, cond, _||_}
+use mathlib.Core.Bool.{Bool, true, false, cond, _||_}
 use mathlib.Core.Path.{_≡_, refl, sym, _∙_}
 use mathlib.Core.Logic.{_⊎_, inl, inr}
 use mathlib.Core.List.{List, [], _∷_, _++_}
@@ -10,50 +10,30 @@ use native.Mathlib.Nat.{mul-le-mul-right}
 use lib.Dec.{eqb, ltb}
 use borrow.Author.Tests.{eqb-true, eqb-false, lt-ltb, le-ltb}
 use Rattle.bitset.proofs.Tests.{decided}
-use Rattle.semiautomata.specs.Calls.{Check, lowest}
+use Rattle.semiautomata.proofs.Lowest.{lowest-zero, lowest-first}
 use Rattle.plan.specs.Bytes.{headerOf, planChecks, refusal, WellFormed}
-use Rattle.plan.proofs.Refusals.{well-formed-range}
+use Rattle.plan.proofs.Refusals.{well-formed-range, plan-numbered, refusal-le}
 use Rattle.table.specs.Table.{setsFrom}
 use Rattle.prepare.specs.Preparing.{short, shortTable, shortLetters, countRefusal, prepareRefusal}
-
--- MORE CHECKS AFTER A LIST
-
-abbrev pub Positive : List Check → Type 0
-Positive [] = Unit {0}
-Positive (c ∷ cs) = (0 < c .number) × Positive cs
-
-pub lowest-zero : (cs ds : List Check) → Positive cs → lowest cs ≡ 0 → lowest (cs ++ ds) ≡ lowest ds
-lowest-zero [] ds p e = refl
-lowest-zero (c ∷ cs) ds p e = go (decided (c .applies)) (lowest-zero cs ds (p .1))
-  where
-    go : (c .applies ≡ true) ⊎ (c .applies ≡ false) → (lowest cs ≡ 0 → lowest (cs ++ ds) ≡ lowest ds) → lowest (c ∷ (cs ++ ds)) ≡ lowest ds
-    go (inl a) ih = let z : c .number ≡ 0 = rw a at e in absurd (omega (arith, p .0))
-    go (inr a) ih = rw a (ih (rw a at e))
-
-pub lowest-first : (cs ds : List Check) → ¬ (lowest cs ≡ 0) → lowest (cs ++ ds) ≡ lowest cs
-lowest-first [] ds n = absurd (n refl)
-lowest-first (c ∷ cs) ds n = go (decided (c .applies)) (lowest-first cs ds)
-  where
-    go : (c .applies ≡ true) ⊎ (c .applies ≡ false) → (¬ (lowest cs ≡ 0) → lowest (cs ++ ds) ≡ lowest cs) → lowest (c ∷ (cs ++ ds)) ≡ lowest (c ∷ cs)
-    go (inl a) ih = rw a
-    go (inr a) ih = rw a (ih (rw a at n))
-
-pub positive : (plan : List ℕ) → Positive (planChecks plan)
-positive plan = (omega arith, (omega arith, (omega arith, (omega arith, (omega arith, (omega arith, (omega arith, tt)))))))
 
 -- how large the buffers are
 pub square : {n : ℕ} → n ≤ 64 → n * n ≤ 4096
 square {n} h = omega (arith, mul-le-mul-right n h)
 
+-- 9 or no refusal
+nine : (b : Bool) → cond b 9 0 ≤ 9
+nine true = omega arith
+nine false = omega arith
+
 module _ (plan : List ℕ) where
   -- 9 is looked at where the plan is well formed
   pub count-well : WellFormed plan → (letters : ℕ) → countRefusal plan letters ≡ cond (shortLetters plan letters) 9 0
   unfolding refusal countRefusal
-  count-well w letters = lowest-zero (planChecks plan) (short (shortLetters plan letters)) (positive plan) w
+  count-well w letters = lowest-zero 7 (planChecks plan) (short (shortLetters plan letters)) (plan-numbered plan) w
 
   pub prepare-well : WellFormed plan → (table letters : ℕ) → prepareRefusal plan table letters ≡ cond (shortTable plan table || shortLetters plan letters) 9 0
   unfolding refusal prepareRefusal
-  prepare-well w table letters = lowest-zero (planChecks plan) (short (shortTable plan table || shortLetters plan letters)) (positive plan) w
+  prepare-well w table letters = lowest-zero 7 (planChecks plan) (short (shortTable plan table || shortLetters plan letters)) (plan-numbered plan) w
 
   pub count-unwell : ¬ (refusal plan ≡ 0) → (letters : ℕ) → countRefusal plan letters ≡ refusal plan
   unfolding refusal countRefusal
@@ -104,3 +84,17 @@ module _ (plan : List ℕ) where
   count-refuses {r} e n =
       let ill : ¬ (refusal plan ≡ 0) = λ w. n (e ∙ count-clear w {n = headerOf plan .n} refl (square (well-formed-range plan w .n-high))) in
       (e ∙ count-unwell ill 4096, ill)
+
+  -- no refusal before 15 is 15
+  other : {r : ℕ} → (¬ (refusal plan ≡ 0) → r ≡ refusal plan) → (WellFormed plan → r ≤ 9) → ¬ (r ≡ 15)
+  other ill well e = elim (decided (eqb (refusal plan) 0)) [
+    | inl q ↦ omega (arith, well (eqb-true (refusal plan) 0 q))
+    | inr q ↦ omega (arith, ill (eqb-false (refusal plan) 0 q), refusal-le plan)
+  ]
+
+  pub count-not-15 : (letters : ℕ) → ¬ (countRefusal plan letters ≡ 15)
+  count-not-15 letters = other (λ n. count-unwell n letters) λ w. rw (count-well w letters) (nine (shortLetters plan letters))
+
+  pub prepare-not-15 : (table letters : ℕ) → ¬ (prepareRefusal plan table letters ≡ 15)
+  prepare-not-15 table letters =
+      other (λ n. prepare-unwell n table letters) λ w. rw (prepare-well w table letters) (nine (shortTable plan table || shortLetters plan letters))

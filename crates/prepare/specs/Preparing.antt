@@ -2,6 +2,7 @@
 -- Assumes nothing.
 use Prim.Native.Nat.{ℕ, _+_, _*_}
 use mathlib.Core.Bool.{Bool, false, _||_}
+use mathlib.Core.Logic.{_⊎_}
 use mathlib.Core.Path.{_≡_}
 use mathlib.Core.List.{List, [], _∷_, _++_}
 use lib.Dec.{ltb}
@@ -10,7 +11,8 @@ use Rattle.semiautomata.specs.Semiautomaton.{Semiautomaton}
 use Rattle.semiautomata.specs.Predictability.{Lookahead}
 use Rattle.semiautomata.specs.Predictability as predictability
 use Rattle.semiautomata.specs.Calls.{Check, lowest}
-use Rattle.plan.specs.Bytes.{headerOf, meaning, planChecks, refusal, WellFormed}
+use Rattle.semiautomata.specs.Outcomes.{Outcome, refused, answered}
+use Rattle.plan.specs.Bytes.{headerOf, meaning, planChecks, refusal}
 use Rattle.table.specs.Table.{setsFrom, lookaheadOf, tableMeaning, unfit}
 use Rattle.lookahead.specs.declared.Evidence.{Evidence}
 use Rattle.lookahead.specs.Answers.{TrueOf}
@@ -46,30 +48,48 @@ pub record Shown (S : Semiautomaton) (e : Evidence) (old letters : List ℕ) : T
   pub claimed : TrueOf S e letters
   pub kept : drop (e .stem + e .cycle) letters ≡ drop (e .stem + e .cycle) old
 
--- What preparing gives. A refusal is its number and writes nothing; k comes with the table, the letters untouched; where there is none,
--- the evidence comes with its letters, the table untouched.
+-- What preparing and the count call answer: k. 15 comes with evidence.
+abbrev pub outcomeOfPrepared : Prepared → Outcome ℕ
+outcomeOfPrepared (Ready k) = answered k
+outcomeOfPrepared (Refused r) = refused r
+outcomeOfPrepared (Unpredictable e) = refused 15
+
+-- The look-ahead of S as it is answered where the first refusal before 15 that applies has this number, 0 if none applies: that refusal;
+-- 15 where no k exists; else k.
+abbrev pub LooksAhead : ℕ → Semiautomaton → Outcome ℕ → Type 0
+LooksAhead refusal S (refused r) = ((r ≡ refusal) × ¬ (r ≡ 0)) ⊎ ((refusal ≡ 0) × (r ≡ 15) × predictability.Unpredictable S)
+LooksAhead refusal S (answered k) = (refusal ≡ 0) × Lookahead S k
+
+-- What is left in the lent letters: the evidence under 15, which never comes without it, and else what stood there.
+abbrev pub LeavesLetters : Semiautomaton → Prepared → List ℕ → List ℕ → Type 0
+LeavesLetters S (Ready k) old letters = letters ≡ old
+LeavesLetters S (Refused r) old letters = ¬ (r ≡ 15) × (letters ≡ old)
+LeavesLetters S (Unpredictable e) old letters = Shown S e old letters
+
+-- .. and in the lent table: the form with k, and else what stood there.
+abbrev pub LeavesTable : Semiautomaton → Prepared → List ℕ → List ℕ → Type 0
+LeavesTable S (Ready k) old table = Tabled S k old table
+LeavesTable S (Refused r) old table = table ≡ old
+LeavesTable S (Unpredictable e) old table = table ≡ old
+
+-- What preparing gives.
 abbrev pub Prepares : List ℕ → Prepared → List ℕ → List ℕ → List ℕ → List ℕ → Type 0
-Prepares plan (Refused r) old table old′ letters =
-    (r ≡ prepareRefusal plan (length old) (length old′)) × ¬ (r ≡ 0) × (table ≡ old) × (letters ≡ old′)
-Prepares plan (Ready k) old table old′ letters =
-    (prepareRefusal plan (length old) (length old′) ≡ 0) × Lookahead (meaning plan) k × Tabled (meaning plan) k old table × (letters ≡ old′)
-Prepares plan (Unpredictable e) old table old′ letters =
-    (prepareRefusal plan (length old) (length old′) ≡ 0) × Shown (meaning plan) e old′ letters × (table ≡ old)
+Prepares plan a old table old′ letters =
+    LooksAhead (prepareRefusal plan (length old) (length old′)) (meaning plan) (outcomeOfPrepared a)
+    × LeavesTable (meaning plan) a old table
+    × LeavesLetters (meaning plan) a old′ letters
 
 -- What the count call gives: the same without a table.
 abbrev pub CountsTo : List ℕ → Prepared → List ℕ → List ℕ → Type 0
-CountsTo plan (Refused r) old letters = (r ≡ countRefusal plan (length old)) × ¬ (r ≡ 0) × (letters ≡ old)
-CountsTo plan (Ready k) old letters = (countRefusal plan (length old) ≡ 0) × Lookahead (meaning plan) k × (letters ≡ old)
-CountsTo plan (Unpredictable e) old letters = (countRefusal plan (length old) ≡ 0) × Shown (meaning plan) e old letters
+CountsTo plan a old letters =
+    LooksAhead (countRefusal plan (length old)) (meaning plan) (outcomeOfPrepared a) × LeavesLetters (meaning plan) a old letters
 
--- The number of a reply's refusal in document 01, 0 where it is none.
-abbrev pub refusalOf : Prepared → ℕ
-refusalOf (Refused r) = r
-refusalOf (Ready k) = 0
-refusalOf (Unpredictable e) = 15
+-- What the drawing program's entry answers, as one number: k, or 65,536 plus the refusal.
+abbrev pub asNumber : Outcome ℕ → ℕ
+asNumber (answered k) = k
+asNumber (refused r) = 65536 + r
 
--- What the drawing program's entry answers: k, or 65,536 plus the refusal.
-pub data Draws (plan : List ℕ) : ℕ → Type 0 where
-  refuses : ¬ (refusal plan ≡ 0) → Draws plan (65536 + refusal plan)
-  looks-ahead : (k : ℕ) → WellFormed plan → Lookahead (meaning plan) k → Draws plan k
-  never : WellFormed plan → predictability.Unpredictable (meaning plan) → Draws plan (65536 + 15)
+pub record Draws (plan : List ℕ) (r : ℕ) : Type 0 where
+  pub outcome : Outcome ℕ
+  pub looks-ahead : LooksAhead (refusal plan) (meaning plan) outcome
+  pub is : r ≡ asNumber outcome

@@ -7,6 +7,7 @@ use mathlib.Core.List.{List}
 use lib.ListN.{length}
 use Rattle.semiautomata.specs.Semiautomaton.{Semiautomaton}
 use Rattle.semiautomata.specs.Predictability as predictability
+use Rattle.semiautomata.specs.Outcomes.{refused, answered}
 use Rattle.plan.specs.Bytes.{headerOf, meaning, WellFormed}
 use Rattle.table.specs.Table.{setsFrom}
 use Rattle.lookahead.specs.declared.Evidence.{Evidence}
@@ -14,7 +15,7 @@ use Rattle.prepare.specs.declared.Prepared.{Prepared}
 use Rattle.prepare.specs.declared.Prepared.the-variants.{Ready, Unpredictable}
 use Rattle.claim.specs.declared.Checked.{Checked}
 use Rattle.claim.specs.declared.Checked.the-variants.{Yes}
-use Rattle.prepare.specs.Preparing.{refusalOf, Prepares, CountsTo}
+use Rattle.prepare.specs.Preparing.{outcomeOfPrepared, Prepares, CountsTo}
 use Rattle.claim.specs.Checking.{Checks}
 
 -- Preparing or the count call gives this answer and leaves these letters; which numbers preparing was lent does not matter here.
@@ -23,8 +24,8 @@ Answers plan a old letters = CountsTo plan a old letters ⊎ ((old′ : List ℕ
 
 -- The answer is right: k exactly if k is the look-ahead, and 15 exactly if there is none.
 pub record Right (S : Semiautomaton) (a : Prepared) : Type 0 where
-  pub ready : (k : ℕ) → (a ≡ Ready k) ↔ predictability.Lookahead S k
-  pub never : (refusalOf a ≡ 15) ↔ predictability.Unpredictable S
+  pub ready : (k : ℕ) → (outcomeOfPrepared a ≡ answered k) ↔ predictability.Lookahead S k
+  pub never : (outcomeOfPrepared a ≡ refused 15) ↔ predictability.Unpredictable S
 
 pub record Theorems (plan : List ℕ) : Type 0 where
   -- any two calls agree: the same k, or 15 from both

@@ -1,10 +1,9 @@
 -- `check` meets its contract.
 -- Assumes nothing.
-use mathlib.Core.Path.{sym, _∙_}
 use borrow.Author.Needs.{needs}
 use Rattle.plan.proofs.Loading.{zeros}
 use Rattle.plan.proofs.Readings.{reading-refused, reading-counts}
-use Rattle.claim.proofs.Claims.{read-room, read-fit, read-yes, read-no}
+use Rattle.claim.proofs.Claims.{read-room, read-fit, read-yes, read-no, yes-so, no-so}
 use Rattle.claim.proofs.check.Statement.{statement}
 use Rattle.claim.proofs.check.Tie as tie
 
@@ -23,7 +22,7 @@ slice-aggregate-load c = search needs
 load-requires : tie.Need-load-requires
 load-requires c κs =
     let r = c .before .before in
-    let (w, n, m) = reading-counts _ (sym (r .before .before .read .ensures) ∙ r .reading2 .given .1) in
+    let (w, n, m) = reading-counts _ (rw (r .reading2 .given .1) at (r .before .before .read .ensures)) in
     (w, read-room _ w, zeros 2048)
 
 slice-aggregate-is-true : tie.Need-slice-aggregate-is-true
@@ -38,25 +37,27 @@ cast-is-true-2 c = search needs
 is-true-requires : tie.Need-is-true-requires
 is-true-requires c κs =
     let r = c .before .before .before .before .before in
-    let (w, n, m) = reading-counts _ (sym (r .before .before .read .ensures) ∙ r .reading2 .given .1) in
+    let (w, n, m) = reading-counts _ (rw (r .reading2 .given .1) at (r .before .before .read .ensures)) in
     read-fit n m (c .before .before .load .ensures)
 
 returns : tie.Need-returns
-returns c = reading-refused _ (sym (c .before .before .before .read .ensures) ∙ c .before .reading .given .1)
+returns c =
+    let (is, z) = reading-refused _ (rw (c .before .reading .given .1) at (c .before .before .before .read .ensures)) in
+    (is, z, tt)
 
 returns-2 : tie.Need-returns-2
 returns-2 c =
     let l = c .before .before .before .before in
     let r = l .before .before .before in
-    let (w, n, m) = reading-counts _ (sym (r .before .before .read .ensures) ∙ r .reading2 .given .1) in
-    (w, read-yes n m (l .load .ensures) (c .before .is-true .ensures .0 (c .if1 .taken)))
+    let (w, n, m) = reading-counts _ (rw (r .reading2 .given .1) at (r .before .before .read .ensures)) in
+    (w, yes-so (read-yes n m (l .load .ensures) (c .before .is-true .ensures .0 (c .if1 .taken))))
 
 returns-3 : tie.Need-returns-3
 returns-3 c =
     let l = c .before .before .before .before in
     let r = l .before .before .before in
-    let (w, n, m) = reading-counts _ (sym (r .before .before .read .ensures) ∙ r .reading2 .given .1) in
-    (w, read-no n m (l .load .ensures) (c .before .is-true .ensures .1 (c .if1 .left)))
+    let (w, n, m) = reading-counts _ (rw (r .reading2 .given .1) at (r .before .before .read .ensures)) in
+    (w, no-so (read-no n m (l .load .ensures) (c .before .is-true .ensures .1 (c .if1 .left))))
 
 pub check-spec : {M : Type 1} → statement M
 check-spec =

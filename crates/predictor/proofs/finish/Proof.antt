@@ -101,7 +101,7 @@ returns-4 c =
     let f = fits (from-2 e) in
     let o = standing-some (by-table f) _ _ (room e .0) (here (d .before)) (d .if3 .left) in
     let r = rw (lent f) at (c .before .before .list-open .ensures) in
-    (end-0 _ _ _ f (e .if2 .left) (o .tidied) (o .is-sound), r .0, r .1)
+    (end-0 _ _ _ f (e .if2 .left) (o .tidied) (o .is-sound), (r .0, r .1))
 
 pub finish-spec : {M : Type 1} → statement M
 finish-spec =

@@ -4,6 +4,7 @@ use mathlib.Core.Path.{refl, sym, _∙_}
 use denote.Ref.{now}
 use Rattle.plan.proofs.Readings.{reading-counts, reading-refused}
 use Rattle.prepare.proofs.Refusals.{count-unwell}
+use Rattle.prepare.proofs.Promises.{count-refused}
 use borrow.Author.Needs.{needs}
 use Rattle.prepare.proofs.count.Statement.{statement}
 use Rattle.prepare.proofs.count.Tie as tie
@@ -24,12 +25,12 @@ cast-count-sound-2 : tie.Need-cast-count-sound-2
 cast-count-sound-2 c = search needs
 
 count-sound-requires : tie.Need-count-sound-requires
-count-sound-requires c κs = reading-counts _ (sym (c .before .before .before .before .read .ensures) ∙ c .before .before .reading2 .given .1)
+count-sound-requires c κs = reading-counts _ (rw (c .before .before .reading2 .given .1) at (c .before .before .before .before .read .ensures))
 
 returns : tie.Need-returns
 returns c =
-    let (a, n) = reading-refused _ (sym (c .before .before .before .read .ensures) ∙ c .before .reading .given .1) in
-    (a ∙ sym (count-unwell (now (c .before .before .before .before .before .before .args .plan)) (λ e. n (a ∙ e)) _), n, refl)
+    let (a, n) = reading-refused _ (rw (c .before .reading .given .1) at (c .before .before .before .read .ensures)) in
+    count-refused (now (c .before .before .before .before .before .before .args .plan)) (a ∙ sym (count-unwell (now (c .before .before .before .before .before .before .args .plan)) (λ e. n (a ∙ e)) _)) n
 
 same-length : tie.Need-same-length
 same-length c = search needs

@@ -6,6 +6,7 @@ use denote.Ref.{now}
 use Rattle.plan.proofs.Refusals.{well-formed-range}
 use Rattle.plan.proofs.Loading.{zeros, room}
 use Rattle.prepare.proofs.Refusals.{square, count-clear, count-short}
+use Rattle.prepare.proofs.Promises.{count-refused, count-never}
 use Rattle.prepare.proofs.Answers.{states, fit-here, starts-here, found, shown}
 use borrow.Author.Needs.{needs}
 use Rattle.prepare.proofs.count_sound.Statement.{statement}
@@ -15,7 +16,9 @@ mul-if1 : tie.Need-mul-if1
 mul-if1 c = omega (arith, square (states (now (c .before .before .args .plan)) (c .before .before .pre .0) (c .before .before .pre .1)))
 
 returns : tie.Need-returns
-returns c = (count-short (now (c .before .before .before .args .plan)) (c .before .before .before .pre .0) (c .before .before .before .pre .1) (c .if1 .taken), (λ e. omega arith), refl)
+returns c =
+    let s = c .before .before .before in
+    count-refused (now (s .args .plan)) (count-short (now (s .args .plan)) (s .pre .0) (s .pre .1) (c .if1 .taken)) (λ e. omega arith)
 
 slice-aggregate-load : tie.Need-slice-aggregate-load
 slice-aggregate-load c = search needs
@@ -40,14 +43,23 @@ same-length c = search needs
 
 returns-2 : tie.Need-returns-2
 returns-2 c =
-    let (a, e) = found (now (c .before .before .before .before .before .before .before .before .before .before .before .before .before .before .args .plan)) (c .before .before .before .before .before .before .before .before .before .before .before .before .before .before .pre .0) (c .before .before .before .before .before .before .before .before .before .load .ensures) (c .before .before .before .before .before .before .before .before .before .before .before .before .before .before .pre .1) (c .before .before .before .before .before .before .before .before .before .before .before .before .before .before .pre .2) _ _ _ (c .before .before .before .before .before .look-ahead .ensures) _ (c .before .answer .given .1) in
-    (count-clear (now (c .before .before .before .before .before .before .before .before .before .before .before .before .before .before .args .plan)) (c .before .before .before .before .before .before .before .before .before .before .before .before .before .before .pre .0) (c .before .before .before .before .before .before .before .before .before .before .before .before .before .before .pre .1) (c .before .before .before .before .before .before .before .before .before .before .before .if1 .left), a, e)
+    let s = c .before .before .before .before .before .before .before .before .before .before .before .before .before .before in
+    let l = c .before .before .before .before .before in
+    let (a, e) = found (now (s .args .plan)) (s .pre .0) (l .before .before .before .before .load .ensures) (s .pre .1) (s .pre .2) _ _ _
+    (l .look-ahead .ensures) _ (c .before .answer .given .1) in
+    ((count-clear (now (s .args .plan)) (s .pre .0) (s .pre .1) (l .before .before .before .before .before .before .if1 .left), a), e)
 
 same-length-2 : tie.Need-same-length-2
 same-length-2 c = search needs
 
 returns-3 : tie.Need-returns-3
-returns-3 c = (count-clear (now (c .before .before .before .before .before .before .before .before .before .before .before .before .before .before .args .plan)) (c .before .before .before .before .before .before .before .before .before .before .before .before .before .before .pre .0) (c .before .before .before .before .before .before .before .before .before .before .before .before .before .before .pre .1) (c .before .before .before .before .before .before .before .before .before .before .before .if1 .left), shown (now (c .before .before .before .before .before .before .before .before .before .before .before .before .before .before .args .plan)) (c .before .before .before .before .before .before .before .before .before .before .before .before .before .before .pre .0) (c .before .before .before .before .before .before .before .before .before .load .ensures) (c .before .before .before .before .before .before .before .before .before .before .before .before .before .before .pre .1) (c .before .before .before .before .before .before .before .before .before .before .before .before .before .before .pre .2) _ _ _ (c .before .before .before .before .before .look-ahead .ensures) _ (c .before .answer2 .given .1))
+returns-3 c =
+    let s = c .before .before .before .before .before .before .before .before .before .before .before .before .before .before in
+    let l = c .before .before .before .before .before in
+    count-never (now (s .args .plan))
+    (count-clear (now (s .args .plan)) (s .pre .0) (s .pre .1) (l .before .before .before .before .before .before .if1 .left))
+    (shown (now (s .args .plan)) (s .pre .0) (l .before .before .before .before .load .ensures) (s .pre .1) (s .pre .2) _ _ _
+    (l .look-ahead .ensures) _ (c .before .answer2 .given .1))
 
 pub count-sound-spec : {M : Type 1} → statement M
 count-sound-spec =

@@ -4,6 +4,7 @@ use mathlib.Core.Path.{refl, sym, _∙_}
 use denote.Ref.{now}
 use Rattle.plan.proofs.Readings.{reading-counts, reading-refused}
 use Rattle.prepare.proofs.Refusals.{prepare-unwell}
+use Rattle.prepare.proofs.Promises.{prepare-refused}
 use borrow.Author.Needs.{needs}
 use Rattle.prepare.proofs.prepare.Statement.{statement}
 use Rattle.prepare.proofs.prepare.Tie as tie
@@ -24,12 +25,12 @@ cast-prepare-sound-2 : tie.Need-cast-prepare-sound-2
 cast-prepare-sound-2 c = search needs
 
 prepare-sound-requires : tie.Need-prepare-sound-requires
-prepare-sound-requires c κs = reading-counts _ (sym (c .before .before .before .before .before .read .ensures) ∙ c .before .before .before .reading2 .given .1)
+prepare-sound-requires c κs = reading-counts _ (rw (c .before .before .before .reading2 .given .1) at (c .before .before .before .before .before .read .ensures))
 
 returns : tie.Need-returns
 returns c =
-    let (a, n) = reading-refused _ (sym (c .before .before .before .read .ensures) ∙ c .before .reading .given .1) in
-    (a ∙ sym (prepare-unwell (now (c .before .before .before .before .before .before .before .args .plan)) (λ e. n (a ∙ e)) _ _), n, refl, refl)
+    let (a, n) = reading-refused _ (rw (c .before .reading .given .1) at (c .before .before .before .read .ensures)) in
+    prepare-refused (now (c .before .before .before .before .before .before .before .args .plan)) (a ∙ sym (prepare-unwell (now (c .before .before .before .before .before .before .before .args .plan)) (λ e. n (a ∙ e)) _ _)) n
 
 same-length : tie.Need-same-length
 same-length c = search needs

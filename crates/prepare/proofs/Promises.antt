@@ -1,0 +1,67 @@
+-- The promises of preparing and of the count call, put together and taken apart for each case of the answer.
+-- Assumes nothing.
+use Prim.Native.Nat.{ℕ}
+use mathlib.Core.Path.{_≡_, refl, sym, _∙_}
+use mathlib.Core.Logic.{inl, inr}
+use mathlib.Core.List.{List}
+use lib.ListN.{length}
+use Rattle.semiautomata.specs.Semiautomaton.{Semiautomaton}
+use Rattle.semiautomata.specs.Predictability.{Lookahead, Unpredictable}
+use Rattle.semiautomata.specs.Outcomes.{refused}
+use Rattle.semiautomata.proofs.Decide.{witness-unpredictable}
+use Rattle.plan.specs.Bytes.{meaning}
+use Rattle.lookahead.specs.declared.Evidence.{Evidence}
+use Rattle.prepare.specs.declared.Prepared.the-variants as prepared
+use Rattle.prepare.specs.Preparing.{countRefusal, prepareRefusal, Tabled, Shown, LooksAhead, Prepares, CountsTo}
+use Rattle.prepare.proofs.Refusals.{count-not-15, prepare-not-15}
+
+-- evidence shown tells that there is no look-ahead
+pub shown-never : {S : Semiautomaton} {e : Evidence} {old letters : List ℕ} → Shown S e old letters → Unpredictable S
+shown-never {S} s = witness-unpredictable S _ (s .claimed .witness)
+
+-- a refusal that is not 15 is one before it, and 15 comes where none before it applies
+before-15 : {refusal r : ℕ} {S : Semiautomaton} → ¬ (r ≡ 15) → LooksAhead refusal S (refused r) → (r ≡ refusal) × ¬ (r ≡ 0)
+before-15 n (inl a) = a
+before-15 n (inr (_, f, _)) = absurd (n f)
+
+none-before : {refusal : ℕ} {S : Semiautomaton} → ¬ (refusal ≡ 15) → LooksAhead refusal S (refused 15) → refusal ≡ 0
+none-before n (inl (e, _)) = absurd (n (sym e))
+none-before n (inr (p, _, _)) = p
+
+module _ (plan : List ℕ) where
+  -- THE COUNT CALL
+  pub count-refused : {r : ℕ} {old : List ℕ} → r ≡ countRefusal plan (length old) → ¬ (r ≡ 0) → CountsTo plan (prepared.Refused r) old old
+  count-refused e n = (inl (e, n), (λ q. count-not-15 plan _ (sym e ∙ q), refl))
+
+  pub count-never : {e : Evidence} {old letters : List ℕ} → countRefusal plan (length old) ≡ 0 → Shown (meaning plan) e old letters
+      → CountsTo plan (prepared.Unpredictable e) old letters
+  count-never p s = (inr (p, refl, shown-never s), s)
+
+  pub count-refused-so : {r : ℕ} {old letters : List ℕ} → CountsTo plan (prepared.Refused r) old letters
+      → (r ≡ countRefusal plan (length old)) × ¬ (r ≡ 0) × (letters ≡ old)
+  count-refused-so (l, (n, k)) = let (e, z) = before-15 n l in (e, z, k)
+
+  pub count-never-so : {e : Evidence} {old letters : List ℕ} → CountsTo plan (prepared.Unpredictable e) old letters
+      → (countRefusal plan (length old) ≡ 0) × Shown (meaning plan) e old letters
+  count-never-so (l, s) = (none-before (count-not-15 plan _) l, s)
+
+  -- PREPARING
+  pub prepare-refused : {r : ℕ} {old old′ : List ℕ} → r ≡ prepareRefusal plan (length old) (length old′) → ¬ (r ≡ 0)
+      → Prepares plan (prepared.Refused r) old old old′ old′
+  prepare-refused e n = (inl (e, n), refl, (λ q. prepare-not-15 plan _ _ (sym e ∙ q), refl))
+
+  pub prepare-ready : {k : ℕ} {old table old′ letters : List ℕ} → prepareRefusal plan (length old) (length old′) ≡ 0
+      → Lookahead (meaning plan) k → Tabled (meaning plan) k old table → letters ≡ old′ → Prepares plan (prepared.Ready k) old table old′ letters
+  prepare-ready p a t e = ((p, a), t, e)
+
+  pub prepare-never : {e : Evidence} {old old′ letters : List ℕ} → prepareRefusal plan (length old) (length old′) ≡ 0
+      → Shown (meaning plan) e old′ letters → Prepares plan (prepared.Unpredictable e) old old old′ letters
+  prepare-never p s = (inr (p, refl, shown-never s), refl, s)
+
+  pub prepare-refused-so : {r : ℕ} {old table old′ letters : List ℕ} → Prepares plan (prepared.Refused r) old table old′ letters
+      → (r ≡ prepareRefusal plan (length old) (length old′)) × ¬ (r ≡ 0) × (table ≡ old) × (letters ≡ old′)
+  prepare-refused-so (l, t, (n, k)) = let (e, z) = before-15 n l in (e, z, t, k)
+
+  pub prepare-never-so : {e : Evidence} {old table old′ letters : List ℕ} → Prepares plan (prepared.Unpredictable e) old table old′ letters
+      → (prepareRefusal plan (length old) (length old′) ≡ 0) × Shown (meaning plan) e old′ letters × (table ≡ old)
+  prepare-never-so (l, t, s) = (none-before (prepare-not-15 plan _ _) l, s, t)
