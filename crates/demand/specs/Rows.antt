@@ -9,12 +9,12 @@ use mathlib.Core.List.{List, [], _∷_}
 use lib.ListN.{length, getD}
 use Rattle.semiautomata.specs.Semiautomaton.{Semiautomaton}
 use Rattle.semiautomata.specs.Predictability.{Lookahead, Unpredictable}
-use Rattle.semiautomata.specs.Calls.{refused}
+use Rattle.semiautomata.specs.Calls as reply
+use Rattle.semiautomata.specs.Outcomes.{refused, answered}
 use Rattle.plan.specs.Bytes.{headerOf, meaning, WellFormed}
 use Rattle.table.specs.Table.{setsFrom}
 use Rattle.prepare.specs.declared.Prepared.{Prepared}
-use Rattle.prepare.specs.declared.Prepared.the-variants.{Ready}
-use Rattle.prepare.specs.Preparing.{Prepares, CountsTo, Draws, refusalOf}
+use Rattle.prepare.specs.Preparing.{outcomeOfPrepared, Prepares, CountsTo, Draws}
 use Rattle.simulate.specs.declared.Verdict.{Verdict}
 use Rattle.simulate.specs.declared.Walked.{Walked}
 use Rattle.simulate.specs.declared.Walked.the-variants.{Upto}
@@ -48,8 +48,8 @@ Holds S none = Unpredictable S
 
 -- What preparing and the count call answer, and the number that the drawing program gets.
 abbrev pub Replied : Option ℕ → Prepared → Type 0
-Replied (some k) r = r ≡ Ready k
-Replied none r = refusalOf r ≡ 15
+Replied (some k) r = outcomeOfPrepared r ≡ answered k
+Replied none r = outcomeOfPrepared r ≡ refused 15
 
 abbrev pub drawn : Option ℕ → ℕ
 drawn (some k) = k
@@ -62,7 +62,7 @@ IsSo plan (walked word sets) =
     → (a ≡ Upto (length word)) × ((i : ℕ) → i ≤ length word → getD out i 0 ≡ getD sets i 0)
 IsSo plan (judged q a word v) = (k : ℕ) (table : List ℕ) (r : Judged) → Made plan k table → Judges table q a word r → r ≡ Told v
 IsSo plan unopened =
-    (k : ℕ) (table bytes left : List ℕ) (a : Answer) → Made plan k table → heldFrom + k ≤ length bytes → Opens table bytes a left → said a ≡ refused 13
+    (k : ℕ) (table bytes left : List ℕ) (a : Answer) → Made plan k table → heldFrom + k ≤ length bytes → Opens table bytes a left → said a ≡ reply.refused 13
 
 abbrev pub AllSo : List ℕ → List Saying → Type 0
 AllSo plan [] = Unit {0}

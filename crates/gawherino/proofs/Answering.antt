@@ -9,13 +9,14 @@ use mathlib.Core.List.{List, [], _∷_, _++_}
 use native.Mathlib.Omega.{arith}
 use lib.Dec.{ltb}
 use lib.ListN.{length}
-use Rattle.bitset.specs.Sets.{any}
+use Rattle.bitset.specs.Sets.{any, one-if}
 use Rattle.bitset.proofs.Tests.{decided}
 use Rattle.semiautomata.specs.Semiautomaton.{Semiautomaton}
 use Rattle.semiautomata.specs.Calls.{Reply, refused, resolved, nothing, Result, Check, checked, lowest}
 use Rattle.semiautomata.specs.Streaming.{base, soleAt, resolve, settle, settled, unopened, opened, feedChecks, feed}
+use Rattle.semiautomata.proofs.Lowest.{Numbered, lowest-le}
 use Rattle.semiautomata.proofs.Streaming.{at-sole}
-use Rattle.plan.specs.Bytes.{planChecks, refusal, reading}
+use Rattle.plan.specs.Bytes.{planChecks, refusal, outcomeOfReading, reading}
 use Rattle.plan.specs.declared.Reading.{Reading}
 use Rattle.plan.specs.declared.Reading.the-variants as read
 use Rattle.plan.proofs.Refusals.{well-formed-range}
@@ -27,6 +28,7 @@ use Rattle.prepare.specs.declared.Prepared.the-variants.{Ready, Refused, Unpred
 use Rattle.prepare.specs.Preparing.{short, shortTable, shortLetters, countRefusal, prepareRefusal, Prepares, CountsTo}
 use Rattle.prepare.proofs.Refusals.{count-passes, prepare-passes}
 use Rattle.prepare.proofs.Answers.{small}
+use Rattle.prepare.proofs.Promises.{count-refused-so, prepare-refused-so}
 use Rattle.lookahead.specs.declared.Evidence.{Evidence}
 use Rattle.claim.specs.declared.Checked.{Checked}
 use Rattle.claim.specs.declared.Checked.the-variants as claim
@@ -44,30 +46,17 @@ use Rattle.predictor.specs.declared.Ended.{Ended}
 use Rattle.predictor.specs.declared.Ended.the-variants as ended
 use Rattle.predictor.specs.Calls.{tableCheck, recordCheck, tidyCheck, onto, openedOn, fedOn, Opens, Feeds, endChecks, endRefusal, Ends}
 use Rattle.records.specs.Bytes.{decode}
-use Rattle.gawherino.specs.Numbers.{Numbers, refusing, ofReading, ofPrepared, ofChecked, ofWalked, ofJudged, ofAnswer, ofEnded, Gives, answers, refuses}
+use Rattle.gawherino.specs.Numbers.{Numbers, refusing, ofReading, ofPrepared, ofChecked, ofWalked, ofJudged, ofAnswer, ofEnded, PassesOn, answers, refuses}
 use Rattle.gawherino.specs.Theorems.{Number, value, refusal as refusal-number}
 use Rattle.gawherino.proofs.Endings.{few-ended}
 
 -- CHECKS IN ORDER
 
--- their numbers are those of refusals
-abbrev pub Numbered : List Check → Type 0
-Numbered [] = Unit {0}
-Numbered (c ∷ cs) = (1 ≤ c .number) × (c .number ≤ 15) × Numbered cs
-
-lowest-le : (cs : List Check) → Numbered cs → lowest cs ≤ 15
-lowest-le [] _ = omega arith
-lowest-le (c ∷ cs) (_, h, n) = go (decided (c .applies)) (lowest-le cs n)
-  where
-    go : (c .applies ≡ true) ⊎ (c .applies ≡ false) → lowest cs ≤ 15 → lowest (c ∷ cs) ≤ 15
-    go (inl a) ih = rw a h
-    go (inr a) ih = rw a ih
-
-pub refused-number : (cs : List Check) → Numbered cs → {r : ℕ} → r ≡ lowest cs → ¬ (r ≡ 0) → Number (refusing r)
-refused-number cs n {r} e z = let h = lowest-le cs n in refusal-number r (omega (arith, z)) (omega (arith, h, e)) refl
+pub refused-number : (cs : List Check) → Numbered 15 cs → {r : ℕ} → r ≡ lowest cs → ¬ (r ≡ 0) → Number (refusing r)
+refused-number cs n {r} e z = let h = lowest-le 15 cs n in refusal-number r (omega (arith, z)) (omega (arith, h, e)) refl
 
 -- for want of room some refusal is given
-no-room : (cs : List Check) → Numbered cs → (1 ≤ lowest (cs ++ short true)) × (lowest (cs ++ short true) ≤ 15)
+no-room : (cs : List Check) → Numbered 15 cs → (1 ≤ lowest (cs ++ short true)) × (lowest (cs ++ short true) ≤ 15)
 no-room [] _ = (omega arith, omega arith)
 no-room (c ∷ cs) (l, h, n) = go (decided (c .applies)) (no-room cs n)
   where
@@ -77,12 +66,12 @@ no-room (c ∷ cs) (l, h, n) = go (decided (c .applies)) (no-room cs n)
     go (inr a) ih = rw a ih
 
 pub gives-number : {A : Type 0} {numbers : A → Numbers} {room : ℕ} {before : List Check} {Meets : A → Type 0} {Kept : Type 0} {r : ℕ} {old more : List ℕ}
-    → Numbered before → ((a : A) → Meets a → Number (numbers a .first)) → Gives numbers room before Meets Kept r old more → Number r
+    → Numbered 15 before → ((a : A) → Meets a → Number (numbers a .first)) → PassesOn numbers room before Meets Kept r old more → Number r
 gives-number n f (answers _ a m p) = rw (p .answered) (f a m)
 gives-number {before = before} n f (refuses _ e _ _) = let (l, h) = no-room before n in refusal-number _ l h e
 
-pub plan-numbered : (plan : List ℕ) (more : List Check) → Numbered more → Numbered (planChecks plan ++ more)
-plan-numbered plan more n =
+pub plan-and-more : (plan : List ℕ) (more : List Check) → Numbered 15 more → Numbered 15 (planChecks plan ++ more)
+plan-and-more plan more n =
     (omega arith, omega arith, (omega arith, omega arith, (omega arith, omega arith, (omega arith, omega arith, (omega arith, omega arith, (omega arith, omega arith, (omega arith, omega arith, n)))))))
 
 -- ANSWERS ABOUT A PLAN
@@ -90,35 +79,36 @@ plan-numbered plan more n =
 module _ (plan : List ℕ) where
   pub unread-number : {r : ℕ} → r ≡ refusal plan → ¬ (r ≡ 0) → Number (refusing r)
   unfolding refusal
-  unread-number = refused-number (planChecks plan) (plan-numbered plan [] tt)
+  unread-number = refused-number (planChecks plan) (plan-and-more plan [] tt)
 
   short-number : (b : Bool) {r : ℕ} → r ≡ lowest (planChecks plan ++ short b) → ¬ (r ≡ 0) → Number (refusing r)
-  short-number b = refused-number (planChecks plan ++ short b) (plan-numbered plan (short b) (omega arith, omega arith, tt))
+  short-number b = refused-number (planChecks plan ++ short b) (plan-and-more plan (short b) (omega arith, omega arith, tt))
 
-  pub reading-number : (a : Reading) → a ≡ reading plan → Number (ofReading a .first)
+  pub reading-number : (a : Reading) → outcomeOfReading a ≡ reading plan → Number (ofReading a .first)
   reading-number (read.Counts n m p e) d =
-      let (w, is, _) = reading-counts plan (sym d) in
+      let (w, is, _) = reading-counts plan d in
       let h = well-formed-range plan w .n-high in
       value (omega arith)
-  reading-number (read.Refused r) d = let (is, z) = reading-refused plan (sym d) in unread-number is z
+  reading-number (read.Refused r) d = let (is, z) = reading-refused plan d in unread-number is z
 
   pub prepared-number : (old table old′ letters : List ℕ) (a : Prepared) → Prepares plan a old table old′ letters → Number (ofPrepared a .first)
   unfolding prepareRefusal
-  prepared-number old table old′ letters (Ready k) (p, a, _, _) = let h = small plan (prepare-passes plan _ _ p) k a in value (omega arith)
-  prepared-number old table old′ letters (Refused r) (e, z, _, _) =
+  prepared-number old table old′ letters (Ready k) ((p, a), _, _) = let h = small plan (prepare-passes plan _ _ p) k a in value (omega arith)
+  prepared-number old table old′ letters (Refused r) c =
+      let (e, z, _, _) = prepare-refused-so plan c in
       short-number (shortTable plan (length old) || shortLetters plan (length old′)) e z
   prepared-number old table old′ letters (Unpredictable e) _ = refusal-number 15 (omega arith) (omega arith) refl
 
   pub counted-number : (old letters : List ℕ) (a : Prepared) → CountsTo plan a old letters → Number (ofPrepared a .first)
   unfolding countRefusal
-  counted-number old letters (Ready k) (p, a, _) = let h = small plan (count-passes plan _ p) k a in value (omega arith)
-  counted-number old letters (Refused r) (e, z, _) = short-number (shortLetters plan (length old)) e z
+  counted-number old letters (Ready k) ((p, a), _) = let h = small plan (count-passes plan _ p) k a in value (omega arith)
+  counted-number old letters (Refused r) c = let (e, z, _) = count-refused-so plan c in short-number (shortLetters plan (length old)) e z
   counted-number old letters (Unpredictable e) _ = refusal-number 15 (omega arith) (omega arith) refl
 
   pub checked-number : (c : Evidence) (letters : List ℕ) (a : Checked) → Checks plan c letters a → Number (ofChecked a .first)
   checked-number c letters claim.Yes _ = value (omega arith)
   checked-number c letters claim.No _ = value (omega arith)
-  checked-number c letters (claim.Refused r) (e, z) = unread-number e z
+  checked-number c letters (claim.Refused r) (e, z, _) = unread-number e z
 
 -- ANSWERS ABOUT A TABLE
 
@@ -132,14 +122,14 @@ pub judged-number : (table : List ℕ) (q a : ℕ) (word : List ℕ) (j : Judged
 unfolding verdictRefusal
 judged-number table q a word (judged.Told v) _ = value (bit (v .minimal))
   where
-    bit : (b : Bool) → cond b 1 0 < 65536
+    bit : (b : Bool) → one-if b < 65536
     bit true = omega arith
     bit false = omega arith
-judged-number table q a word (judged.Refused r) (e, z) = refused-number (verdictChecks table q a word) (omega arith, omega arith, (omega arith, omega arith, tt)) e z
+judged-number table q a word (judged.Refused r) (e, z, _) = refused-number (verdictChecks table q a word) (omega arith, omega arith, (omega arith, omega arith, tt)) e z
 
 pub ended-number : (table bytes old out : List ℕ) (a : Ended) → Ends table bytes a old out → Number (ofEnded a .first)
 unfolding endRefusal
-ended-number table bytes old out (ended.Open c) (e, is, _) = let h = few-ended table bytes (length old) e in value (omega arith)
+ended-number table bytes old out (ended.Open c) (e, (is, _)) = let h = few-ended table bytes (length old) e in value (omega arith)
 ended-number table bytes old out (ended.Refused r) (e, z, _) =
     refused-number (endChecks table bytes (length old)) (omega arith, omega arith, (omega arith, omega arith, (omega arith, omega arith, (omega arith, omega arith, tt)))) e z
 
@@ -157,7 +147,7 @@ answer-number n answer.Nothing _ = value (omega arith)
 answer-number n (answer.Refused r) (l, h) = refusal-number r l h refl
 
 -- the first check that applies, or what is given where none does
-checked-small : (n : ℕ) (A : Type 0) (cs : List Check) (state : A) (done : Result A) → Numbered cs → (lowest cs ≡ 0 → Small n (done .reply)) → Small n (checked cs state done .reply)
+checked-small : (n : ℕ) (A : Type 0) (cs : List Check) (state : A) (done : Result A) → Numbered 15 cs → (lowest cs ≡ 0 → Small n (done .reply)) → Small n (checked cs state done .reply)
 checked-small n A [] state done _ f = f refl
 checked-small n A (c ∷ cs) state done (l, h, m) f = go (decided (c .applies)) (checked-small n A cs state done m)
   where

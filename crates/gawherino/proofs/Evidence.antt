@@ -22,12 +22,12 @@ use Rattle.gawherino.specs.Promises.{claimOf, PassesCheck}
 
 module _ (plan : List ℕ) where
   pub prepares-fit : (a : Prepared) (old table old′ letters : List ℕ) → Prepares plan a old table old′ letters → Fit32 a
-  prepares-fit (Ready k) old table old′ letters (p, a, _, _) = omega (arith, small plan (prepare-passes plan _ _ p) k a)
+  prepares-fit (Ready k) old table old′ letters ((p, a), _, _) = omega (arith, small plan (prepare-passes plan _ _ p) k a)
   prepares-fit (Refused r) old table old′ letters _ = tt
   prepares-fit (Unpredictable e) old table old′ letters _ = tt
 
   pub counts-fit : (a : Prepared) (old letters : List ℕ) → CountsTo plan a old letters → Fit32 a
-  counts-fit (Ready k) old letters (p, a, _) = omega (arith, small plan (count-passes plan _ p) k a)
+  counts-fit (Ready k) old letters ((p, a), _) = omega (arith, small plan (count-passes plan _ p) k a)
   counts-fit (Refused r) old letters _ = tt
   counts-fit (Unpredictable e) old letters _ = tt
 
@@ -47,7 +47,7 @@ module _ (plan claim letters : List ℕ) where
         answer = checked.Yes;
         meets = m;
         passed = record { answered = e; written = refl };
-        short = λ h _. short-false (meaning plan) claim letters h (m .1);
+        short = λ h _. short-false (meaning plan) claim letters h (m .1 .0 refl);
       }
       go checked.No m e = record { answer = checked.No; meets = m; passed = record { answered = e; written = refl }; short = λ _ z. omega arith }
       go (checked.Refused r) m e = record { answer = checked.Refused r; meets = m; passed = record { answered = e; written = refl }; short = λ _ z. omega arith }

@@ -2,25 +2,31 @@
 -- Assumes nothing.
 use Prim.Native.Nat.{ℕ}
 use mathlib.Core.Path.{refl}
+use mathlib.Core.Logic.{inl, inr}
 use mathlib.Core.List.{List, []}
 use native.Mathlib.Omega.{arith}
-use Rattle.prepare.specs.Preparing.{Draws, refuses, looks-ahead, never}
+use Rattle.semiautomata.specs.Outcomes.{Outcome, refused, answered}
+use Rattle.plan.specs.Bytes.{meaning, refusal}
+use Rattle.prepare.specs.Preparing.{LooksAhead, asNumber, Draws}
 use Rattle.prepare.proofs.Answers.{small}
 use Rattle.predictor.specs.declared.Answer.the-variants.{Resolved}
 use Rattle.gawherino.specs.Promises.{claimOf}
 use Rattle.gawherino.specs.Theorems.{Number, value, refusal as refusal-number, Theorems}
-use Rattle.gawherino.proofs.Answering.{gives-number, plan-numbered, unread-number, reading-number, prepared-number, counted-number, checked-number, walked-number, judged-number, opened-small, fed-small, opened-number, fed-number, ended-number}
+use Rattle.gawherino.proofs.Answering.{gives-number, plan-and-more, unread-number, reading-number, prepared-number, counted-number, checked-number, walked-number, judged-number, opened-small, fed-small, opened-number, fed-number, ended-number}
 
 drawn : (plan : List ℕ) {r : ℕ} → Draws plan r → Number r
-drawn plan (refuses n) = unread-number plan refl n
-drawn plan (looks-ahead k w l) = let h = small plan w k l in value (omega arith)
-drawn plan (never w u) = refusal-number 15 (omega arith) (omega arith) refl
+drawn plan d = rw (d .is) (go (d .outcome) (d .looks-ahead))
+  where
+    go : (o : Outcome ℕ) → LooksAhead (refusal plan) (meaning plan) o → Number (asNumber o)
+    go (refused r) (inl (e, n)) = unread-number plan e n
+    go (refused r) (inr (_, e, _)) = refusal-number 15 (omega arith) (omega arith) (rw e)
+    go (answered k) (w, l) = let h = small plan w k l in value (omega arith)
 
 pub theorems : (r : ℕ) → Theorems r
 theorems r = record {
-  reading = λ plan old counts. gives-number (plan-numbered plan [] tt) (reading-number plan);
-  preparing = λ plan old table old′ letters old″ evidence. gives-number (plan-numbered plan [] tt) (prepared-number plan old table old′ letters);
-  counting = λ plan old letters old′ evidence. gives-number (plan-numbered plan [] tt) (counted-number plan old letters);
+  reading = λ plan old counts. gives-number (plan-and-more plan [] tt) (reading-number plan);
+  preparing = λ plan old table old′ letters old″ evidence. gives-number (plan-and-more plan [] tt) (prepared-number plan old table old′ letters);
+  counting = λ plan old letters old′ evidence. gives-number (plan-and-more plan [] tt) (counted-number plan old letters);
   drawing = λ plan. drawn plan;
   checking = λ plan claim letters p. rw (p .passed .answered) (checked-number plan (claimOf claim) letters (p .answer) (p .meets));
   walking = λ table word old sets old′ length. gives-number (omega arith, omega arith, tt) (walked-number table word old sets);

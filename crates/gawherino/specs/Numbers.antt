@@ -1,33 +1,37 @@
--- Answers in numbers, as C gets them (include/gawherino.h): one number, a value below 65,536 or 65,536 plus the refusal, and further values,
+-- Outcomes in numbers, as C gets them (include/gawherino.h): one number, a value below 65,536 or 65,536 plus the refusal, and further values,
 -- which go to the front of a lent slice.
 -- Assumes nothing.
 use Prim.Native.Nat.{ℕ, _+_, _^_, _≤_, _<_}
-use mathlib.Core.Bool.{true, cond}
+use mathlib.Core.Bool.{true}
 use mathlib.Core.Path.{_≡_}
 use mathlib.Core.List.{List, [], _∷_, _++_}
 use lib.ListN.{length, drop}
+use Rattle.bitset.specs.Sets.{one-if}
 use Rattle.semiautomata.specs.Calls.{Check, lowest}
+use Rattle.semiautomata.specs.Calls.{Reply, resolved, nothing}
+use Rattle.semiautomata.specs.Calls as reply
+use Rattle.semiautomata.specs.Outcomes.{Outcome, refused, answered}
 use Rattle.plan.specs.declared.Reading.{Reading}
-use Rattle.plan.specs.declared.Reading.the-variants as reading
+use Rattle.plan.specs.Bytes.{outcomeOfReading}
 use Rattle.prepare.specs.declared.Prepared.{Prepared}
 use Rattle.prepare.specs.declared.Prepared.the-variants.{Ready, Refused, Unpredictable}
 use Rattle.claim.specs.declared.Checked.{Checked}
-use Rattle.claim.specs.declared.Checked.the-variants as checked
-use Rattle.prepare.specs.Preparing.{short, refusalOf}
+use Rattle.claim.specs.Checking.{outcomeOfChecked}
+use Rattle.prepare.specs.Preparing.{short, outcomeOfPrepared, asNumber}
 use Rattle.simulate.specs.declared.Walked.{Walked}
-use Rattle.simulate.specs.declared.Walked.the-variants as walked
+use Rattle.simulate.specs.Walking.{outcomeOfWalked}
 use Rattle.simulate.specs.declared.Judged.{Judged}
-use Rattle.simulate.specs.declared.Judged.the-variants as judged
+use Rattle.simulate.specs.Verdicts.{outcomeOfJudged}
 use Rattle.predictor.specs.declared.Answer.{Answer}
-use Rattle.predictor.specs.declared.Answer.the-variants as answer
+use Rattle.predictor.specs.Replies.{said}
 use Rattle.predictor.specs.declared.Ended.{Ended}
-use Rattle.predictor.specs.declared.Ended.the-variants as ended
+use Rattle.predictor.specs.Calls.{outcomeOfEnded}
 
 pub record Numbers : Type 0 where
   pub first : ℕ
   pub further : List ℕ
 
--- THE NUMBERS OF EACH ANSWER
+-- THE NUMBERS OF EACH OUTCOME
 
 abbrev pub valued : ℕ → List ℕ → Numbers
 valued first further = record { first = first; further = further }
@@ -35,47 +39,48 @@ valued first further = record { first = first; further = further }
 abbrev pub refusing : ℕ → ℕ
 refusing r = 65536 + r
 
-abbrev pub refused : ℕ → Numbers
-refused r = valued (refusing r) []
+-- A refusal has no further values; the values of each call are numbered below.
+abbrev pub numbered : {A : Type 0} → (A → Numbers) → Outcome A → Numbers
+numbered values (refused r) = valued (refusing r) []
+numbered values (answered v) = values v
 
 -- n; m, p and e.
 abbrev pub ofReading : Reading → Numbers
-ofReading (reading.Counts n m p e) = valued n (m ∷ p ∷ e ∷ [])
-ofReading (reading.Refused r) = refused r
+ofReading a = numbered (λ c. valued (c .n) (c .m ∷ c .p ∷ c .e ∷ [])) (outcomeOfReading a)
 
 -- k; under 15 the evidence.
+abbrev pub evidenceOf : Prepared → List ℕ
+evidenceOf (Ready k) = []
+evidenceOf (Refused r) = []
+evidenceOf (Unpredictable e) = e .state ∷ e .letter ∷ e .low ∷ e .high ∷ e .stem ∷ e .cycle ∷ []
+
 abbrev pub ofPrepared : Prepared → Numbers
-ofPrepared (Ready k) = valued k []
-ofPrepared (Refused r) = refused (refusalOf (Refused r))
-ofPrepared (Unpredictable e) =
-    valued (refusing (refusalOf (Unpredictable e))) (e .state ∷ e .letter ∷ e .low ∷ e .high ∷ e .stem ∷ e .cycle ∷ [])
+ofPrepared a = valued (asNumber (outcomeOfPrepared a)) (evidenceOf a)
 
 -- 1 for yes, 0 for no.
 abbrev pub ofChecked : Checked → Numbers
-ofChecked checked.Yes = valued 1 []
-ofChecked checked.No = valued 0 []
-ofChecked (checked.Refused r) = refused r
+ofChecked a = numbered (λ yes. valued (one-if yes) []) (outcomeOfChecked a)
 
 -- 0; g.
 abbrev pub ofWalked : Walked → Numbers
-ofWalked (walked.Upto g) = valued 0 (g ∷ [])
-ofWalked (walked.Refused r) = refused r
+ofWalked a = numbered (λ g. valued 0 (g ∷ [])) (outcomeOfWalked a)
 
 -- 1 for a minimal selector, else 0; the states that can walk the word, and those of which it is a maximal nonselector.
 abbrev pub ofJudged : Judged → Numbers
-ofJudged (judged.Told v) = valued (cond (v .minimal) 1 0) (v .survivors ∷ v .nonselected ∷ [])
-ofJudged (judged.Refused r) = refused r
+ofJudged a = numbered (λ v. valued (one-if (v .minimal)) (v .survivors ∷ v .nonselected ∷ [])) (outcomeOfJudged a)
 
 -- The booked stake, or 255 for none; its position.
+abbrev pub ofReply : Reply → Numbers
+ofReply (reply.refused r) = valued (refusing r) []
+ofReply (resolved position state) = valued state (position ∷ [])
+ofReply nothing = valued 255 []
+
 abbrev pub ofAnswer : Answer → Numbers
-ofAnswer (answer.Resolved position state) = valued state (position ∷ [])
-ofAnswer answer.Nothing = valued 255 []
-ofAnswer (answer.Refused r) = refused r
+ofAnswer a = ofReply (said a)
 
 -- How many positions are not booked.
 abbrev pub ofEnded : Ended → Numbers
-ofEnded (ended.Open count) = valued count []
-ofEnded (ended.Refused r) = refused r
+ofEnded a = numbered (λ count. valued count []) (outcomeOfEnded a)
 
 -- What preparing answers fits 32 bits.
 abbrev pub Fit32 : Prepared → Type 0
@@ -96,6 +101,6 @@ noRoom before = refusing (lowest (before ++ short true))
 
 -- What a call gives that may have so many further values: with room for them the numbers of an answer that meets the promise of the
 -- call it stands for; else it is refused, and all that it is lent is kept.
-pub data Gives {A : Type 0} (numbers : A → Numbers) (room : ℕ) (before : List Check) (Meets : A → Type 0) (Kept : Type 0) (r : ℕ) (old more : List ℕ) : Type 0 where
-  answers : room ≤ length old → (a : A) → Meets a → Passed (numbers a) r old more → Gives numbers room before Meets Kept r old more
-  refuses : length old < room → r ≡ noRoom before → more ≡ old → Kept → Gives numbers room before Meets Kept r old more
+pub data PassesOn {A : Type 0} (numbers : A → Numbers) (room : ℕ) (before : List Check) (Meets : A → Type 0) (Kept : Type 0) (r : ℕ) (old more : List ℕ) : Type 0 where
+  answers : room ≤ length old → (a : A) → Meets a → Passed (numbers a) r old more → PassesOn numbers room before Meets Kept r old more
+  refuses : length old < room → r ≡ noRoom before → more ≡ old → Kept → PassesOn numbers room before Meets Kept r old more

@@ -4,7 +4,7 @@ use Prim.Native.Nat.{ℕ, _<_}
 use mathlib.Core.Path.{_≡_}
 use mathlib.Core.List.{List, [], _∷_}
 use lib.ListN.{length, getD}
-use Rattle.plan.specs.Bytes.{planChecks, reading}
+use Rattle.plan.specs.Bytes.{planChecks, outcomeOfReading, reading}
 use Rattle.lookahead.specs.declared.Evidence.{Evidence}
 use Rattle.claim.specs.declared.Checked.{Checked}
 use Rattle.prepare.specs.Preparing.{Prepares, CountsTo}
@@ -13,19 +13,19 @@ use Rattle.simulate.specs.Walking.{Walks}
 use Rattle.simulate.specs.Verdicts.{Judges}
 use Rattle.predictor.specs.declared.Ended.{Ended}
 use Rattle.predictor.specs.Calls.{tableCheck, Opens, Feeds, Ends}
-use Rattle.gawherino.specs.Numbers.{ofReading, ofPrepared, ofChecked, ofWalked, ofJudged, ofAnswer, ofEnded, Passed, Gives}
+use Rattle.gawherino.specs.Numbers.{ofReading, ofPrepared, ofChecked, ofWalked, ofJudged, ofAnswer, ofEnded, Passed, PassesOn}
 
 -- CALLS ON A PLAN: without room, 1 to 7, or 9.
 
 abbrev pub PassesReading : List ℕ → ℕ → List ℕ → List ℕ → Type 0
-PassesReading plan r old counts = Gives ofReading 3 (planChecks plan) (λ a. a ≡ reading plan) Unit r old counts
+PassesReading plan r old counts = PassesOn ofReading 3 (planChecks plan) (λ a. outcomeOfReading a ≡ reading plan) Unit r old counts
 
 abbrev pub PassesPrepared : List ℕ → ℕ → List ℕ → List ℕ → List ℕ → List ℕ → List ℕ → List ℕ → Type 0
 PassesPrepared plan r old table old′ letters old″ evidence =
-    Gives ofPrepared 6 (planChecks plan) (λ a. Prepares plan a old table old′ letters) ((table ≡ old) × (letters ≡ old′)) r old″ evidence
+    PassesOn ofPrepared 6 (planChecks plan) (λ a. Prepares plan a old table old′ letters) ((table ≡ old) × (letters ≡ old′)) r old″ evidence
 
 abbrev pub PassesCount : List ℕ → ℕ → List ℕ → List ℕ → List ℕ → List ℕ → Type 0
-PassesCount plan r old letters old′ evidence = Gives ofPrepared 6 (planChecks plan) (λ a. CountsTo plan a old letters) (letters ≡ old) r old′ evidence
+PassesCount plan r old letters old′ evidence = PassesOn ofPrepared 6 (planChecks plan) (λ a. CountsTo plan a old letters) (letters ≡ old) r old′ evidence
 
 -- A claim in numbers, as evidence is given; what is missing is 0, so that fewer than six numbers claim an empty loop.
 abbrev pub claimOf : List ℕ → Evidence
@@ -49,18 +49,18 @@ pub record PassesCheck (plan claim letters : List ℕ) (r : ℕ) : Type 0 where
 
 abbrev pub PassesWalk : List ℕ → List ℕ → ℕ → List ℕ → List ℕ → List ℕ → List ℕ → Type 0
 PassesWalk table word r old sets old′ more =
-    Gives ofWalked 1 (tableCheck table ∷ []) (λ a. Walks table word a old sets) (sets ≡ old) r old′ more
+    PassesOn ofWalked 1 (tableCheck table ∷ []) (λ a. Walks table word a old sets) (sets ≡ old) r old′ more
 
 abbrev pub PassesVerdict : List ℕ → ℕ → ℕ → List ℕ → ℕ → List ℕ → List ℕ → Type 0
-PassesVerdict table state letter word r old sets = Gives ofJudged 2 (tableCheck table ∷ []) (Judges table state letter word) Unit r old sets
+PassesVerdict table state letter word r old sets = PassesOn ofJudged 2 (tableCheck table ∷ []) (Judges table state letter word) Unit r old sets
 
 abbrev pub PassesOpening : List ℕ → ℕ → List ℕ → List ℕ → List ℕ → List ℕ → Type 0
 PassesOpening table r old bytes old′ position =
-    Gives ofAnswer 1 (tableCheck table ∷ []) (λ a. Opens table old a bytes) (bytes ≡ old) r old′ position
+    PassesOn ofAnswer 1 (tableCheck table ∷ []) (λ a. Opens table old a bytes) (bytes ≡ old) r old′ position
 
 abbrev pub PassesLetter : List ℕ → ℕ → ℕ → List ℕ → List ℕ → List ℕ → List ℕ → Type 0
 PassesLetter table letter r old bytes old′ position =
-    Gives ofAnswer 1 (tableCheck table ∷ []) (λ a. Feeds table old letter a bytes) (bytes ≡ old) r old′ position
+    PassesOn ofAnswer 1 (tableCheck table ∷ []) (λ a. Feeds table old letter a bytes) (bytes ≡ old) r old′ position
 
 pub record PassesEnding (table bytes : List ℕ) (r : ℕ) (old sets : List ℕ) : Type 0 where
   pub answer : Ended

@@ -1,9 +1,11 @@
 -- `gawherino_count` meets its contract.
 -- Assumes nothing.
+use mathlib.Core.Path.{refl}
+use mathlib.Core.Logic.{inl, inr}
 use native.Mathlib.Omega.{arith}
 use denote.Ref.{now}
-use Rattle.prepare.proofs.Theorems.{shown-never}
-use Rattle.prepare.specs.Preparing.{refuses, looks-ahead, never}
+use Rattle.prepare.proofs.Promises.{shown-never, count-refused-so, count-never-so}
+use Rattle.semiautomata.specs.Outcomes.{refused, answered}
 use Rattle.prepare.proofs.Refusals.{count-passes, count-refuses}
 use Rattle.prepare.proofs.Answers.{small}
 use borrow.Author.Needs.{needs}
@@ -21,7 +23,7 @@ enum-known-counted c = search needs
 
 cast-result : tie.Need-cast-result
 cast-result c =
-    let (p, a, _) = rw (c .before .counted .given .1) at (c .before .before .before .before .count .ensures) in
+    let ((p, a), _) = rw (c .before .counted .given .1) at (c .before .before .before .before .count .ensures) in
     omega (arith, small (now (c .before .before .before .before .before .before .before .args .plan)) (count-passes (now (c .before .before .before .before .before .before .before .args .plan)) 4096 p) _ a)
 
 enum-known-counted-2 : tie.Need-enum-known-counted-2
@@ -41,19 +43,25 @@ add-result-2 c = search needs
 
 returns : tie.Need-returns
 returns c =
-    let (p, a, _) = rw (c .before .counted .given .1) at (c .before .before .before .before .count .ensures) in
-    looks-ahead _ (count-passes (now (c .before .before .before .before .before .before .before .args .plan)) 4096 p) a
+    let ((p, a), _) = rw (c .before .counted .given .1) at (c .before .before .before .before .count .ensures) in
+    record {
+      outcome = answered _;
+      looks-ahead = (count-passes (now (c .before .before .before .before .before .before .before .args .plan)) 4096 p, a);
+      is = refl;
+    }
 
 returns-2 : tie.Need-returns-2
 returns-2 c =
-    let (a, n, _) = rw (c .before .counted2 .given .1) at (c .before .before .before .before .count .ensures) in
-    let (e, ill) = count-refuses (now (c .before .before .before .before .before .before .before .args .plan)) a n in
-    rw e (refuses ill)
+    let p = now (c .before .before .before .before .before .before .before .args .plan) in
+    let (a, n, _) = count-refused-so p (rw (c .before .counted2 .given .1) at (c .before .before .before .before .count .ensures)) in
+    let (e, ill) = count-refuses p a n in
+    record { outcome = refused _; looks-ahead = inl (e, n); is = refl }
 
 returns-3 : tie.Need-returns-3
 returns-3 c =
-    let (p, s) = rw (c .enum-told .given .1) at (c .before .before .before .count .ensures) in
-    never (count-passes (now (c .before .before .before .before .before .before .args .plan)) 4096 p) (shown-never s)
+    let plan = now (c .before .before .before .before .before .before .args .plan) in
+    let (p, s) = count-never-so plan (rw (c .enum-told .given .1) at (c .before .before .before .count .ensures)) in
+    record { outcome = refused 15; looks-ahead = inr (count-passes plan 4096 p, refl, shown-never s); is = refl }
 
 pub gawherino-count-spec : {M : Type 1} → statement M
 gawherino-count-spec =

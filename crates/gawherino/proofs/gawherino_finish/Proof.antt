@@ -14,7 +14,7 @@ enum-known-ended : tie.Need-enum-known-ended
 enum-known-ended c = search needs
 
 cast-result : tie.Need-cast-result
-cast-result c = let (p, l, _) = rw (c .before .ended .given .1) at (c .before .before .before .before .before .finish .ensures) in omega (arith, few-ended _ _ _ p)
+cast-result c = let (p, (l, _)) = rw (c .before .ended .given .1) at (c .before .before .before .before .before .finish .ensures) in omega (arith, few-ended _ _ _ p)
 
 enum-known-ended-2 : tie.Need-enum-known-ended-2
 enum-known-ended-2 c = search needs

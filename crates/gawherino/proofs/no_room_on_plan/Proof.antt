@@ -1,6 +1,5 @@
 -- `no_room_on_plan` meets its contract.
 -- Assumes nothing.
-use mathlib.Core.Path.{sym, _∙_}
 use Rattle.gawherino.proofs.Rooms.{no-room-refused, no-room-read}
 use borrow.Author.Needs.{needs}
 use Rattle.gawherino.proofs.no_room_on_plan.Statement.{statement}
@@ -25,10 +24,10 @@ add-result-2 : tie.Need-add-result-2
 add-result-2 c = search needs
 
 returns : tie.Need-returns
-returns c = no-room-refused (c .before .before .before .before .before .args .plan .now) (sym (c .before .reading .given .1) ∙ c .before .before .before .read .ensures)
+returns c = no-room-refused (c .before .before .before .before .before .args .plan .now) (rw (c .before .reading .given .1) at (c .before .before .before .read .ensures))
 
 returns-2 : tie.Need-returns-2
-returns-2 c = no-room-read (c .before .before .before .before .args .plan .now) (sym (c .enum-told .given .1) ∙ c .before .before .read .ensures)
+returns-2 c = no-room-read (c .before .before .before .before .args .plan .now) (rw (c .enum-told .given .1) at (c .before .before .read .ensures))
 
 pub no-room-on-plan-spec : {M : Type 1} → statement M
 no-room-on-plan-spec =
