@@ -1,9 +1,10 @@
 -- Plans A to H as bytes: tests computed over the whole table, and one law that turns them into what each row says.
 -- Assumes nothing.
-use Prim.Native.Nat.{ℕ, zero, suc, _*_, _≤_, _<_}
+use Prim.Native.Nat.{ℕ, zero, suc, _-_, _*_, _/_, _≤_, _<_}
 use mathlib.Core.Bool.{Bool, true, false, not, _&&_, false≢true}
 use mathlib.Core.Option.{Option, some, none}
 use mathlib.Core.Path.{_≡_, refl, sym, _∙_, ap, subst}
+use mathlib.Core.Logic.{inl, inr}
 use mathlib.Core.List.{List, [], _∷_}
 use native.Mathlib.Omega.{arith}
 use lib.Dec.{eqb, ltb}
@@ -17,6 +18,7 @@ use Rattle.semiautomata.specs.Predictability.{fork, member, named}
 use Rattle.semiautomata.specs.Walks.{Longest, PossibleAt, spells, step, possible, walkable, greatest, longest}
 use Rattle.semiautomata.specs.Selectors.{selector, minimalSelector, maximalNonselector}
 use Rattle.semiautomata.specs.Levels.{live, clashIn, clash}
+use Rattle.semiautomata.specs.Outcomes.{Outcome, refused, answered}
 use Rattle.semiautomata.proofs.Levels.{with-and}
 use Rattle.semiautomata.proofs.Shares.{lookahead-unique, lookahead-predicts}
 use Rattle.semiautomata.proofs.Decide.{clash-out, clash-in, some-shorter, lookahead-first, some-witness, witness-unpredictable}
@@ -24,10 +26,9 @@ use Rattle.semiautomata.proofs.Computed.{longest-unique}
 use Rattle.plan.specs.Bytes.{meaning, refusal, WellFormed}
 use Rattle.plan.proofs.Refusals.{well-formed-within}
 use Rattle.prepare.specs.declared.Prepared.{Prepared}
-use Rattle.prepare.specs.Preparing.{Draws, refuses, looks-ahead}
-use Rattle.prepare.specs.Preparing as preparing
+use Rattle.prepare.specs.Preparing.{LooksAhead, asNumber, Draws}
 use Rattle.prepare.specs.Theorems.{Right}
-use Rattle.demand.specs.Rows.{Saying, walked, judged, unopened, Row, Holds, Replied, drawn, IsSo, AllSo, RowHolds, AllRows, rows}
+use Rattle.demand.specs.Rows.{Saying, walked, judged, unopened, at-bound, Row, Holds, Replied, drawn, IsSo, AllSo, RowHolds, AllRows, rows}
 use Rattle.prepare.proofs.Theorems.{theorems as preparing-theorems}
 use Rattle.table.specs.Table.{statesOf, lettersOf, tableMeaning, unfit}
 use Rattle.walks.specs.Walking.{letterOff}
@@ -52,11 +53,14 @@ module _ (plan : List ℕ) (w : WellFormed plan) where
   replies none h a r = r .never .1 h
 
   draws : (v : Option ℕ) → Holds (meaning plan) v → (x : ℕ) → Draws plan x → x ≡ drawn v
-  draws v h x (refuses n) = absurd (n w)
-  draws (some k) h x (looks-ahead j _ a) = lookahead-unique a h
-  draws none h x (looks-ahead j _ a) = absurd (lookahead-predicts a h)
-  draws (some k) h x (preparing.never _ u) = absurd (lookahead-predicts h u)
-  draws none h x (preparing.never _ u) = refl
+  draws v h x d = d .is ∙ go v h (d .outcome) (d .looks-ahead)
+    where
+      go : (v : Option ℕ) → Holds (meaning plan) v → (o : Outcome ℕ) → LooksAhead (refusal plan) (meaning plan) o → asNumber o ≡ drawn v
+      go v h (refused r) (inl (e, n)) = absurd (n (e ∙ w))
+      go (some k) h (refused r) (inr (_, _, u)) = absurd (lookahead-predicts h u)
+      go none h (refused r) (inr (_, e, _)) = rw e
+      go (some k) h (answered j) (_, a) = lookahead-unique a h
+      go none h (answered j) (_, a) = absurd (lookahead-predicts a h)
 
 -- the test of a look-ahead: no clash at k, one at k - 1; or one at n × n
 abbrev computes : Semiautomaton → Option ℕ → Bool
@@ -74,10 +78,10 @@ computes-holds S W none e = let (c, w) = some-witness S W (clash-out S (S .n * S
 
 module _ (plan : List ℕ) (W : Within (meaning plan)) (k : ℕ) (table : List ℕ) (made : Made plan k table) where
   means : tableMeaning table ≡ meaning plan
-  means = made .prepared .2 .means
+  means = made .prepared .1 .means
 
   fit : unfit table ≡ false
-  fit = made .prepared .2 .fit
+  fit = made .prepared .1 .fit
 
   walk-so : (w sets : List ℕ) → any (meaning plan .n) (meaning plan .initial) ≡ true → letterOff (meaning plan .m) w ≡ false → Longest (meaning plan) w (length w)
       → ((i : ℕ) → i ≤ length w → Stands (meaning plan .n) (PossibleAt (meaning plan) w i) (getD sets i 0)) → (old out : List ℕ) (a : Walked) → length w < length old → Walks table w a old out
@@ -88,14 +92,14 @@ module _ (plan : List ℕ) (W : Within (meaning plan)) (k : ℕ) (table : List �
       let e12 : letterOff (lettersOf table) w ≡ false = subst (λ (S : Semiautomaton). letterOff (S .m) w ≡ false) (sym means) letters in
       let e13 : any (statesOf table) (tableMeaning table .initial) ≡ true = subst (λ (S : Semiautomaton). any (S .n) (S .initial) ≡ true) (sym means) begun in
       absurd (n (e ∙ rw (fit, e9, e12, e13)))
-  walk-so w sets begun letters whole stand old out (walks.Upto h) room (_, l, s, _) =
+  walk-so w sets begun letters whole stand old out (walks.Upto h) room (_, (l, s, _, _)) =
       let q : h ≡ length w = longest-unique (meaning plan) w h (length w) (subst (λ (S : Semiautomaton). Longest S w h) means l) whole in
       (ap walks.Upto q, λ i g. one-set _ _ _ _ (subst (λ (S : Semiautomaton). Stands (S .n) (PossibleAt S w i) (getD out i 0)) means (s i (omega arith))) (stand i g))
 
   judge-so : (q a : ℕ) (w : List ℕ) (v : Verdict) → named (meaning plan) q a ≡ some (fork q a) → letterOff (meaning plan .m) w ≡ false → Tells (meaning plan) (fork q a) w v
       → (r : Judged) → Judges table q a w r → r ≡ judging.Told v
   unfolding verdictRefusal
-  judge-so q a w v named-so letters tell (judging.Refused r) (e, n) =
+  judge-so q a w v named-so letters tell (judging.Refused r) (e, n, _) =
       let e12 : letterOff (lettersOf table) w ≡ false = subst (λ (S : Semiautomaton). letterOff (S .m) w ≡ false) (sym means) letters in
       let e′ : named (tableMeaning table) q a ≡ some (fork q a) = subst (λ (S : Semiautomaton). named S q a ≡ some (fork q a)) (sym means) named-so in
       absurd (n (e ∙ rw (fit, e′, e12)))
@@ -113,6 +117,7 @@ Computed S (walked w sets) =
     × (any (suc (length w)) (λ i. not (eqb (getD sets i 0) (setOf (S .n) (possible S (S .initial) (take (length w) w) i)))) ≡ false)
 Computed S (judged q a w v) = (named S q a ≡ some (fork q a)) × (letterOff (S .m) w ≡ false) × Computes S (member S (fork q a)) w v
 Computed S unopened = any (S .n) (S .initial) ≡ false
+Computed S at-bound = computes S (some (S .n * (S .n - 1) / 2)) ≡ true
 
 abbrev AllComputed : Semiautomaton → List Saying → Type 0
 AllComputed S [] = Unit {0}
@@ -124,6 +129,7 @@ is-so plan W (walked w sets) (begun, letters, whole, at) = λ k table old out a 
     let l : Longest S w (length w) = rw whole at (longest-some S W w begun) in
     walk-so plan W k table made w sets begun letters l (λ i h. possible-stands S W w (length w) l i h (eqb-true _ _ (not-false _ (any-not _ _ at i (omega arith))))) old out a
 is-so plan W (judged q a w v) (name, letters, c) = λ k table r made. judge-so plan W k table made q a w v name letters (tells (meaning plan) W (fork q a) c) r
+is-so plan W at-bound e = λ k table made. lookahead-unique (made .prepared .0 .1) (computes-holds (meaning plan) W (some _) e)
 is-so plan W unopened e = λ k table bytes left a made room o.
     theorems plan k table made .opening-refused bytes a left room o (λ s. not-so _ λ q. false≢true (sym e ∙ any-in _ _ s (W .initial-lt s q) q))
 
@@ -167,13 +173,13 @@ unfolding refusal any clashIn clash live
 rows-pass = refl
 
 rows-said : AllSaid rows
-unfolding any spells step possible walkable greatest longest selector minimalSelector maximalNonselector setOf size
+unfolding any spells step possible walkable greatest longest selector minimalSelector maximalNonselector setOf size clashIn clash live
 rows-said = (
   (
     (refl, refl, record { survivors = refl; minimal = refl; nonselected = refl }),
     ((refl, refl, record { survivors = refl; minimal = refl; nonselected = refl }), tt),
   ),
-  (tt, (((refl, refl, refl, refl), tt), (tt, ((refl, tt), (((refl, refl, refl, refl), tt), (tt, (tt, (tt, tt)))))))),
+  (tt, (((refl, refl, refl, refl), tt), (tt, ((refl, tt), (((refl, refl, refl, refl), tt), ((refl, tt), (tt, (tt, tt)))))))),
 )
 
 pub rows-hold : AllRows rows

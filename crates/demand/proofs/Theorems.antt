@@ -1,13 +1,16 @@
 -- The theorems of specs/Demand.antt.
 -- Assumes nothing.
 use Prim.Native.Nat.{ℕ, _+_, _-_, _^_, _≤_, _<_}
-use mathlib.Core.Bool.{true, false}
+use mathlib.Core.Bool.{true, false, false≢true}
 use mathlib.Core.Path.{_≡_, refl, sym, _∙_, ap}
 use mathlib.Core.Logic.{inl, inr}
 use mathlib.Core.List.{List, [], _∷_, map}
 use native.Mathlib.Omega.{arith}
 use native.Mathlib.Nat.{mul-le-mul-left, mul-le-mul-right}
 use lib.ListN.{length}
+use Rattle.bitset.specs.Sets.{any}
+use Rattle.bitset.proofs.Tests.{decided, not-so}
+use Rattle.bitset.proofs.Below.{any-in, with-any}
 use Rattle.semiautomata.specs.Semiautomaton.{Semiautomaton, Within}
 use Rattle.semiautomata.specs.Predictability.{Predictable, Lookahead}
 use Rattle.semiautomata.specs.Calls.{Reply, refused, resolved, nothing, Result, Check}
@@ -15,15 +18,19 @@ use Rattle.semiautomata.specs.Demand3.{Demand3}
 use Rattle.semiautomata.specs.Streaming.{opened, feed, streamed}
 use Rattle.semiautomata.proofs.Calls.{Among, Outcome, refuses, passes, outcome}
 use Rattle.semiautomata.proofs.Streaming.{opened-none, opened-some, opened-agrees, never-14}
-use Rattle.semiautomata.proofs.Demand3 as demand
-use Rattle.plan.specs.Bytes.{meaning}
+use Rattle.semiautomata.proofs.Demand3 as over-meaning
+use Rattle.semiautomata.proofs.Bound.{lookahead-bound, lookahead-bound-one}
+use Rattle.plan.specs.Bytes.{meaning, WellFormed}
+use Rattle.plan.proofs.Refusals.{well-formed-within}
+use Rattle.prepare.specs.Preparing.{Tabled}
+use Rattle.prepare.proofs.Theorems.{theorems as preparing-theorems}
 use Rattle.table.specs.Table.{statesOf, lookaheadOf, tableMeaning, unfit}
 use Rattle.table.proofs.Fitness.{Fitting, fitting}
 use Rattle.predictor.specs.declared.Answer.{Answer}
 use Rattle.records.specs.Bytes.{heldFrom, decode}
 use Rattle.predictor.specs.Replies.{said}
-use Rattle.predictor.specs.Calls.{written, onto, openedOn, fedOn, tableCheck, recordCheck, tidyCheck}
-use Rattle.demand.specs.Demand.{Made, Walk, Theorems}
+use Rattle.predictor.specs.Calls.{written, onto, openedOn, fedOn, tableCheck, recordCheck, tidyCheck, Opens}
+use Rattle.demand.specs.Demand.{Made, Walk, Taken, Theorems, Demand, DemandMet}
 use Rattle.demand.proofs.Records.{Holds, Small, encode-holds, follows-small, opened-is, feeding-replies}
 
 -- a table that fits has a look-ahead that two bytes can count
@@ -92,30 +99,67 @@ module _ (table : List ℕ) (fit : unfit table ≡ false) (P : Predictable (tabl
     on-demand3 : Lookahead (tableMeaning table) (lookaheadOf table) → (offered : List ℕ) (first : Answer) (answers : List Answer) → Walk table (lookaheadOf table) offered first answers
         → Demand3 (tableMeaning table) (lookaheadOf table) offered (map said (first ∷ answers))
     on-demand3 l offered first answers w =
-        rw (walk-streamed offered first answers w) (demand.demand3 (tableMeaning table) W (lookaheadOf table) P s e offered)
+        rw (walk-streamed offered first answers w) (over-meaning.demand3 (tableMeaning table) W (lookaheadOf table) P s e offered)
 
 -- OF THE PLAN THAT THE TABLE WAS MADE FROM
-pub theorems : (plan : List ℕ) (k : ℕ) (table : List ℕ) (made : Made plan k table) → Theorems plan k table made
-theorems plan k table made =
-    let (_, l, t, _) = made .prepared in
-    let fit = t .fit in
-    let S = tableMeaning table in
-    let K = lookaheadOf table in
-    let here : Lookahead S K = rw (t .means, t .k-is) l in
-    let P = here .enough in
-    let same : (s : ℕ) → S .initial s ≡ meaning plan .initial s = λ s. ap (λ (T : Semiautomaton). T .initial s) (t .means) in
+module _ (plan : List ℕ) (k : ℕ) (table : List ℕ) (made : Made plan k table) where
+  t : Tabled (meaning plan) k (made .old) table
+  t = made .prepared .1
+
+  abbrev S : Semiautomaton
+  S = tableMeaning table
+
+  abbrev K : ℕ
+  K = lookaheadOf table
+
+  here : Lookahead S K
+  here = rw (t .means, t .k-is) (made .prepared .0 .1)
+
+  same : (s : ℕ) → S .initial s ≡ meaning plan .initial s
+  same s = ap (λ (T : Semiautomaton). T .initial s) (t .means)
+
+  module _ (bytes : List ℕ) (a : Answer) (left : List ℕ) (h : heldFrom + k ≤ length bytes) (o : Opens table bytes a left) where
+    opens-as : said a ≡ opened S K .reply
+    opens-as = o .0 ∙ ap (λ (x : Result (List ℕ)). x .reply) (opened-is table (t .fit) bytes (rw (t .k-is) h))
+
+    refused-without : ((s : ℕ) → meaning plan .initial s ≡ false) → said a ≡ refused 13
+    refused-without none = opens-as ∙ opened-none S K (λ s. same s ∙ none s)
+
+    taken-with : (s : ℕ) → meaning plan .initial s ≡ true → Taken a
+    taken-with s e r q = opened-some S (W table (t .fit) (here .enough)) K (here .enough) s (same s ∙ e) r (sym opens-as ∙ q)
+
+    -- an opening that is not refused has a start
+    started : Taken a → (s : ℕ) × (meaning plan .initial s ≡ true)
+    started taken = elim (decided (any (S .n) (S .initial))) [
+      | inl q ↦ with-any (S .n) (S .initial) (λ s _ e. (s, sym (same s) ∙ e)) q
+      | inr q ↦ absurd (taken 13 (refused-without λ s. sym (same s) ∙ none s q))
+    ]
+      where
+        none : (s : ℕ) → any (S .n) (S .initial) ≡ false → S .initial s ≡ false
+        none s q = not-so _ λ e. false≢true (sym q ∙ any-in _ _ s (W table (t .fit) (here .enough) .initial-lt s e) e)
+
+  pub theorems : Theorems plan k table made
+  theorems = record {
+    opening-refused = refused-without;
+    opening-taken = λ bytes a left h o. (started bytes a left h o, λ (s, e). taken-with bytes a left h o s e);
+    never-14 = λ bytes letter a left f q. on-never-14 table (t .fit) (here .enough) bytes letter (sym (f .0) ∙ q);
+  }
+
+  pub booked : (offered : List ℕ) (first : Answer) (answers : List Answer) → Walk table k offered first answers → Taken first
+      → Demand3 (meaning plan) k offered (map said (first ∷ answers))
+  booked offered first answers w taken =
+      let (s, e) = started (w .bytes) first (w .left) (w .room) (w .opening) taken in
+      rw (t .means, t .k-is) at (on-demand3 table (t .fit) (here .enough) s (same s ∙ e) here offered first answers (rw (t .k-is) w))
+
+pub demand : DemandMet
+demand plan w =
+    let p = preparing-theorems plan in
+    let W = well-formed-within plan w in
     record {
-      opening-refused = λ bytes a left h o no.
-          let h : heldFrom + K ≤ length bytes = rw (t .k-is) h in
-          let no : (s : ℕ) → S .initial s ≡ false = λ s. same s ∙ no s in
-          o .0 ∙ ap (λ (x : Result (List ℕ)). x .reply) (opened-is table fit bytes h) ∙ opened-none S K no;
-      opening-taken = λ bytes a left h o s e r q.
-          let h : heldFrom + K ≤ length bytes = rw (t .k-is) h in
-          let e : S .initial s ≡ true = same s ∙ e in
-          opened-some S (W table fit P) K P s e r (sym (o .0 ∙ ap (λ (x : Result (List ℕ)). x .reply) (opened-is table fit bytes h)) ∙ q);
-      never-14 = λ bytes letter a left f q. on-never-14 table fit P bytes letter (sym (f .0) ∙ q);
-      demand3 = λ s e offered first answers w.
-          let e : S .initial s ≡ true = same s ∙ e in
-          let w : Walk table K offered first answers = rw (t .k-is) w in
-          rw (t .means, t .k-is) at (on-demand3 table fit P s e here offered first answers w);
+      counted = p .counted-right w;
+      prepared = p .prepared-right w;
+      evidence = p .evidence-passes;
+      bound = lookahead-bound (meaning plan) W;
+      bound-one-letter = λ one. lookahead-bound-one (meaning plan) W one;
+      booked = booked plan;
     }

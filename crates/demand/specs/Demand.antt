@@ -1,15 +1,24 @@
 -- Demand 3 (the user's term 3; document 01, Walks), of any calls that keep their promises, lent a table for which preparing's promise held.
 -- Assumes nothing.
-use Prim.Native.Nat.{ℕ, _+_, _≤_}
+use Prim.Native.Nat.{ℕ, _+_, _-_, _*_, _/_, _≤_}
 use mathlib.Core.Bool.{true, false}
+use mathlib.Core.Logic.{_↔_}
 use mathlib.Core.Path.{_≡_}
 use mathlib.Core.List.{List, [], _∷_, map}
 use lib.ListN.{length}
+use Rattle.semiautomata.specs.Predictability.{Lookahead}
 use Rattle.semiautomata.specs.Calls.{refused}
 use Rattle.semiautomata.specs.Demand3.{Demand3}
-use Rattle.plan.specs.Bytes.{meaning}
-use Rattle.prepare.specs.declared.Prepared.the-variants.{Ready}
-use Rattle.prepare.specs.Preparing.{Prepares}
+use Rattle.plan.specs.Bytes.{headerOf, meaning, WellFormed}
+use Rattle.table.specs.Table.{setsFrom}
+use Rattle.lookahead.specs.declared.Evidence.{Evidence}
+use Rattle.claim.specs.declared.Checked.{Checked}
+use Rattle.claim.specs.declared.Checked.the-variants.{Yes}
+use Rattle.claim.specs.Checking.{Checks}
+use Rattle.prepare.specs.declared.Prepared.{Prepared}
+use Rattle.prepare.specs.declared.Prepared.the-variants.{Ready, Unpredictable}
+use Rattle.prepare.specs.Preparing.{Prepares, CountsTo}
+use Rattle.prepare.specs.Theorems.{Answers, Right}
 use Rattle.predictor.specs.declared.Answer.{Answer}
 use Rattle.records.specs.Bytes.{heldFrom}
 use Rattle.predictor.specs.Replies.{said}
@@ -37,14 +46,35 @@ pub record Walk (table : List ℕ) (k : ℕ) (offered : List ℕ) (first : Answe
   pub opening : Opens table bytes first left
   pub feeding : Feeding table left offered answers
 
+-- Opening was not refused.
+abbrev pub Taken : Answer → Type 0
+Taken first = (r : ℕ) → ¬ (said first ≡ refused r)
+
+-- What follows of a table that preparing made.
 pub record Theorems (plan : List ℕ) (k : ℕ) (table : List ℕ) (made : Made plan k table) : Type 0 where
   -- opening with 8 + k bytes or more is refused exactly if there are no starts, and then with 13
   pub opening-refused : (bytes : List ℕ) (a : Answer) (left : List ℕ) → heldFrom + k ≤ length bytes → Opens table bytes a left
       → ((s : ℕ) → meaning plan .initial s ≡ false) → said a ≡ refused 13
   pub opening-taken : (bytes : List ℕ) (a : Answer) (left : List ℕ) → heldFrom + k ≤ length bytes → Opens table bytes a left
-      → (s : ℕ) → meaning plan .initial s ≡ true → (r : ℕ) → ¬ (said a ≡ refused r)
+      → Taken a ↔ ((s : ℕ) × (meaning plan .initial s ≡ true))
   -- 14 is met on no record at all, whatever its bytes are
   pub never-14 : (bytes : List ℕ) (letter : ℕ) (a : Answer) (left : List ℕ) → Feeds table bytes letter a left → ¬ (said a ≡ refused 14)
-  -- demand 3, of every list of letters offered to a freshly opened walk
-  pub demand3 : (s : ℕ) → meaning plan .initial s ≡ true → (offered : List ℕ) (first : Answer) (answers : List Answer) → Walk table k offered first answers
-      → Demand3 (meaning plan) k offered (map said (first ∷ answers))
+
+-- DEMAND 3, the whole of it, of one plan.
+pub record Demand (plan : List ℕ) : Type 0 where
+  -- the count: lent buffers being long enough, it is refused as unpredictable exactly when no k exists; otherwise k is answered
+  pub counted : (a : Prepared) (old letters : List ℕ) → headerOf plan .n * headerOf plan .n ≤ length old → CountsTo plan a old letters → Right (meaning plan) a
+  pub prepared : (a : Prepared) (old table old′ letters : List ℕ) → setsFrom + headerOf plan .n * headerOf plan .m ≤ length old
+      → headerOf plan .n * headerOf plan .n ≤ length old′ → Prepares plan a old table old′ letters → Right (meaning plan) a
+  -- with a loop as evidence, to which the separate check says yes
+  pub evidence : (e : Evidence) (old letters : List ℕ) → Answers plan (Unpredictable e) old letters → (r : Checked) → Checks plan e letters r → r ≡ Yes
+  -- the count never exceeds n (n - 1) / 2, or n - 1 where there is only one code
+  pub bound : (k : ℕ) → Lookahead (meaning plan) k → k ≤ headerOf plan .n * (headerOf plan .n - 1) / 2
+  pub bound-one-letter : headerOf plan .m ≡ 1 → (k : ℕ) → Lookahead (meaning plan) k → k ≤ headerOf plan .n - 1
+  -- the bookings: of every list of letters offered to a walk freshly opened, and not refused, on the plan so prepared
+  pub booked : (k : ℕ) (table : List ℕ) → Made plan k table → (offered : List ℕ) (first : Answer) (answers : List Answer)
+      → Walk table k offered first answers → Taken first → Demand3 (meaning plan) k offered (map said (first ∷ answers))
+
+-- It holds of every well-formed plan.
+abbrev pub DemandMet : Type 0
+DemandMet = (plan : List ℕ) → WellFormed plan → Demand plan

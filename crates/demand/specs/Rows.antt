@@ -1,7 +1,7 @@
 -- Document 01's plans A to H as bytes, with what it says of each: the look-ahead, the possible states of a walk, verdicts, opening; and a
 -- ninth: C numbered so that a round in place would go wrong.
 -- Assumes nothing.
-use Prim.Native.Nat.{ℕ, _+_, _*_, _≤_, _<_}
+use Prim.Native.Nat.{ℕ, _+_, _-_, _*_, _/_, _≤_, _<_}
 use mathlib.Core.Bool.{Bool, true, false}
 use mathlib.Core.Option.{Option, some, none}
 use mathlib.Core.Path.{_≡_}
@@ -29,11 +29,12 @@ use Rattle.predictor.specs.Calls.{Opens}
 use Rattle.demand.specs.Demand.{Made}
 
 -- What document 01 says beside the look-ahead: a walk wholly on the plan, with the possible states at each position; the verdict on a word
--- for the fork set of a state and a letter; that opening is refused with 13.
+-- for the fork set of a state and a letter; that opening is refused with 13; that the look-ahead is the bound itself.
 pub data Saying : Type 0 where
   walked : List ℕ → List ℕ → Saying
   judged : ℕ → ℕ → List ℕ → Verdict → Saying
   unopened : Saying
+  at-bound : Saying
 
 -- Plan bytes, the look-ahead, `none` where there is none, and what else is said.
 pub record Row : Type 0 where
@@ -63,6 +64,7 @@ IsSo plan (walked word sets) =
 IsSo plan (judged q a word v) = (k : ℕ) (table : List ℕ) (r : Judged) → Made plan k table → Judges table q a word r → r ≡ Told v
 IsSo plan unopened =
     (k : ℕ) (table bytes left : List ℕ) (a : Answer) → Made plan k table → heldFrom + k ≤ length bytes → Opens table bytes a left → said a ≡ reply.refused 13
+IsSo plan at-bound = (k : ℕ) (table : List ℕ) → Made plan k table → k ≡ headerOf plan .n * (headerOf plan .n - 1) / 2
 
 abbrev pub AllSo : List ℕ → List Saying → Type 0
 AllSo plan [] = Unit {0}
@@ -102,7 +104,7 @@ rows =
     -- F
     ∷ row (1 ∷ 0 ∷ 2 ∷ 0 ∷ 1 ∷ 0 ∷ 2 ∷ 0 ∷ 0 ∷ 0 ∷ 16 ∷ 0 ∷ 18 ∷ 0 ∷ 18 ∷ 0 ∷ 0 ∷ 1 ∷ []) (some 1) (walked [] (3 ∷ []) ∷ [])
     -- G
-    ∷ row (1 ∷ 0 ∷ 3 ∷ 0 ∷ 2 ∷ 0 ∷ 2 ∷ 0 ∷ 4 ∷ 0 ∷ 16 ∷ 0 ∷ 18 ∷ 0 ∷ 30 ∷ 0 ∷ 0 ∷ 1 ∷ 0 ∷ 0 ∷ 1 ∷ 1 ∷ 0 ∷ 2 ∷ 1 ∷ 1 ∷ 0 ∷ 2 ∷ 1 ∷ 2 ∷ []) (some 3) []
+    ∷ row (1 ∷ 0 ∷ 3 ∷ 0 ∷ 2 ∷ 0 ∷ 2 ∷ 0 ∷ 4 ∷ 0 ∷ 16 ∷ 0 ∷ 18 ∷ 0 ∷ 30 ∷ 0 ∷ 0 ∷ 1 ∷ 0 ∷ 0 ∷ 1 ∷ 1 ∷ 0 ∷ 2 ∷ 1 ∷ 1 ∷ 0 ∷ 2 ∷ 1 ∷ 2 ∷ []) (some 3) (at-bound ∷ [])
     -- H
     ∷ row (1 ∷ 0 ∷ 4 ∷ 0 ∷ 2 ∷ 0 ∷ 2 ∷ 0 ∷ 4 ∷ 0 ∷ 16 ∷ 0 ∷ 18 ∷ 0 ∷ 30 ∷ 0 ∷ 0 ∷ 1 ∷ 0 ∷ 0 ∷ 2 ∷ 1 ∷ 0 ∷ 2 ∷ 2 ∷ 1 ∷ 3 ∷ 3 ∷ 1 ∷ 3 ∷ []) none []
     -- C, numbered another way
