@@ -1,3 +1,4 @@
 pub mod Records
 pub mod Theorems
 pub mod Rows
+pub mod Sample

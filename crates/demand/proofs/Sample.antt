@@ -1,0 +1,144 @@
+-- The sample of specs/Sample.antt: each call's promise is met by computation.
+-- Assumes nothing.
+use Prim.Native.Nat.{ℕ, zero, suc, _+_, _*_, _^_, _≤_, _<_}
+use mathlib.Core.Bool.{true, and-false}
+use mathlib.Core.Path.{_≡_, refl}
+use mathlib.Core.Logic.{inl, inr}
+use mathlib.Core.List.{List, [], _∷_}
+use native.Mathlib.Omega.{arith}
+use lib.ListN.{length, getD}
+use borrow.Author.Tests.{lt-ltb}
+use Rattle.bitset.specs.Sets.{any, size, least, has, setOf}
+use Rattle.bitset.proofs.Tests.{decided}
+use Rattle.bitset.proofs.Bits.{has-setOf}
+use Rattle.semiautomata.specs.Semiautomaton.{Within}
+use Rattle.semiautomata.specs.Predictability.{Lookahead}
+use Rattle.semiautomata.specs.Walks.{spells, step, possible, walkable}
+use Rattle.semiautomata.specs.PlainWalk.{limit}
+use Rattle.semiautomata.specs.Streaming.{base, sound, soleAt, settle, opened, feed}
+use Rattle.semiautomata.specs.Successors.{place}
+use Rattle.plan.specs.Bytes.{headerOf, parsed, meaning, WellFormed}
+use Rattle.plan.specs.Loading.{Entered, Loaded}
+use Rattle.plan.proofs.Loading.{loaded}
+use Rattle.plan.proofs.Refusals.{well-formed-within}
+use Rattle.table.specs.Table.{unfit}
+use Rattle.prepare.specs.Preparing.{prepareRefusal}
+use Rattle.prepare.proofs.Answers.{tabled}
+use Rattle.prepare.proofs.Promises.{prepare-ready}
+use Rattle.records.specs.Bytes.{tidy}
+use Rattle.predictor.specs.declared.Answer.{Answer}
+use Rattle.predictor.specs.declared.Answer.the-variants.{Refused, Resolved, Nothing}
+use Rattle.predictor.specs.Calls.{openedOn, fedOn, Opens, Feeds}
+use Rattle.demand.specs.Demand.{Made, none, more, Walk}
+use Rattle.demand.specs.Sample.{planA, tableA, offered, answers, Sample}
+use Rattle.demand.proofs.Theorems.{booked}
+use Rattle.demand.proofs.Rows.{rows-hold}
+
+-- THE TABLE
+
+well-formed : WellFormed planA
+well-formed = rows-hold .0 .well-formed
+
+within : Within (meaning planA)
+within = well-formed-within planA well-formed
+
+abbrev sets : List ℕ
+sets = 2 ∷ 6 ∷ 0 ∷ []
+
+edge-is : (q a t : ℕ) → has (setOf 3 (meaning planA .edge q a)) t ≡ meaning planA .edge q a t
+edge-is q a t = elim (decided (meaning planA .edge q a t)) [
+  | inl e ↦ rw (has-setOf, e, lt-ltb t 3 (within .to-lt q a t e))
+  | inr e ↦ rw (has-setOf, e, and-false)
+]
+
+sets-at : (q : ℕ) → q < 3 → getD sets (place 1 q 0) 0 ≡ setOf 3 (meaning planA .edge q 0)
+unfolding setOf any
+sets-at zero h = refl
+sets-at (suc zero) h = refl
+sets-at (suc (suc zero)) h = refl
+sets-at (suc (suc (suc q))) h = absurd (omega arith)
+
+sets-are : (q a : ℕ) → q < 3 → a < 1 → getD sets (place 1 q a) 0 ≡ setOf 3 (meaning planA .edge q a)
+sets-are q zero h g = sets-at q h
+sets-are q (suc a) h g = absurd (omega arith)
+
+below : (j : ℕ) → j < 3 → getD sets j 0 < 2 ^ 3
+below zero h = omega arith
+below (suc zero) h = omega arith
+below (suc (suc zero)) h = omega arith
+below (suc (suc (suc j))) h = absurd (omega arith)
+
+entered : Entered (parsed planA) 3 (0 ∷ 0 ∷ 0 ∷ []) sets
+entered = record { below = below; edges = λ q a t h g. rw (sets-are q a h g) (edge-is q a t); kept = refl }
+
+starts-are : 1 ≡ setOf 3 (meaning planA .initial)
+unfolding setOf any
+starts-are = refl
+
+is-loaded : Loaded planA (0 ∷ 0 ∷ 0 ∷ []) sets 1
+is-loaded = loaded planA well-formed (headerOf planA) refl (omega arith) entered starts-are
+
+no-refusal : prepareRefusal planA 8 9 ≡ 0
+unfolding prepareRefusal any
+no-refusal = refl
+
+abbrev letters : List ℕ
+letters = 7 ∷ 7 ∷ 7 ∷ 7 ∷ 7 ∷ 7 ∷ 7 ∷ 7 ∷ 7 ∷ []
+
+predicts : Lookahead (meaning planA) 1
+predicts = rows-hold .0 .holds
+
+made : Made planA 1 tableA
+made = record {
+  old = 9 ∷ 9 ∷ 9 ∷ 9 ∷ 9 ∷ 9 ∷ 9 ∷ 9 ∷ [];
+  old-letters = letters;
+  letters = letters;
+  prepared = prepare-ready planA no-refusal predicts (tabled planA well-formed is-loaded refl refl 1 predicts (omega arith) refl) refl;
+}
+
+-- THE RECORD, in ten bytes of which the last is kept: before opening, opened, and after each letter that is taken
+
+abbrev lent : List ℕ
+lent = 5 ∷ 5 ∷ 5 ∷ 5 ∷ 5 ∷ 5 ∷ 5 ∷ 5 ∷ 5 ∷ 5 ∷ []
+
+abbrev begun : List ℕ
+begun = 0 ∷ 0 ∷ 0 ∷ 0 ∷ 255 ∷ 0 ∷ 0 ∷ 0 ∷ 0 ∷ 5 ∷ []
+
+abbrev after : ℕ → ℕ → List ℕ
+after fed last = fed ∷ 0 ∷ 0 ∷ 0 ∷ last ∷ 0 ∷ 1 ∷ 0 ∷ 0 ∷ 5 ∷ []
+
+opens : Opens tableA lent Nothing begun
+unfolding openedOn opened unfit settle any has
+opens = (refl, refl)
+
+first : Feeds tableA begun 0 (Resolved 0 0) (after 1 0)
+unfolding fedOn feed unfit tidy sound base limit settle soleAt walkable possible spells step any size least has
+first = (refl, refl)
+
+refused-1 : Feeds tableA (after 1 0) 1 (Refused 12) (after 1 0)
+unfolding fedOn feed unfit tidy sound base limit settle soleAt walkable possible spells step any size least has
+refused-1 = (refl, refl)
+
+second : Feeds tableA (after 1 0) 0 (Resolved 1 1) (after 2 1)
+unfolding fedOn feed unfit tidy sound base limit settle soleAt walkable possible spells step any size least has
+second = (refl, refl)
+
+third : Feeds tableA (after 2 1) 0 (Resolved 2 1) (after 3 1)
+unfolding fedOn feed unfit tidy sound base limit settle soleAt walkable possible spells step any size least has
+third = (refl, refl)
+
+refused-256 : Feeds tableA (after 3 1) 256 (Refused 12) (after 3 1)
+unfolding fedOn feed unfit tidy sound base limit settle soleAt walkable possible spells step any size least has
+refused-256 = (refl, refl)
+
+walk : Walk tableA 1 offered Nothing answers
+walk = record {
+  bytes = lent;
+  room = omega arith;
+  left = begun;
+  opening = opens;
+  feeding = more first (more refused-1 (more second (more third (more refused-256 none))));
+}
+
+pub sample : Sample
+sample = record { made = made; walk = walk; demand3 = booked planA 1 tableA made offered Nothing answers walk (λ r e. let z : _≡_ {A = ℕ} 0 1 = cc in absurd (omega arith)) }
