@@ -259,7 +259,7 @@ pub extern "C" fn gawherino_open(table: &[u64], rec: &mut [u8], position: &mut [
 pub extern "C" fn gawherino_feed(
     table: &[u64],
     rec: &mut [u8],
-    letter: u8,
+    letter: u32,
     position: &mut [u32],
 ) -> u32
     ensures { λ r. ⌜ PassesLetter (now (table .entry)) letter r (now (rec .entry)) (now (rec .exit)) (now (position .entry)) (now (position .exit)) ⌝ }

@@ -177,15 +177,17 @@ module _ (S : Semiautomaton) (k : ℕ) (bytes : List ℕ) (a : ℕ) where
           (checked-state (feedChecks S k (decode bytes) a) (decode bytes) (after k (decode bytes) (suc (decode bytes .fed)) (decode bytes .held ++ (a ∷ []))) (λ _. refl)
           (settle S k (base S k (decode bytes)) (suc (decode bytes .fed)) (decode bytes .held ++ (a ∷ [])))))
 
-  pub judged-ready : Ready k bytes (judged S k bytes a .reply)
+  pub judged-ready : S .m ≤ 32 → Ready k bytes a (judged S k bytes a .reply)
   unfolding judged feed
-  judged-ready = go (tidy k bytes) (sound S k (decode bytes)) (leb limit (decode bytes .fed)) refl refl refl
+  judged-ready few = go (tidy k bytes) (sound S k (decode bytes)) (leb limit (decode bytes .fed)) (leb (S .m) a) refl refl refl refl
     where
-      go : (t o l : Bool) → tidy k bytes ≡ t → sound S k (decode bytes) ≡ o → leb limit (decode bytes .fed) ≡ l → Ready k bytes (judged S k bytes a .reply)
-      go false o l t q f e = let z : true ≡ false = rw (judged, t) at e in absurd (true≢false z)
-      go true false l t q f e = let z : true ≡ false = rw (judged, t, feed, q) at e in absurd (true≢false z)
-      go true true true t q f e = let z : true ≡ false = rw (judged, t, feed, q, f) at e in absurd (true≢false z)
-      go true true false t q f e = (t, leb-false _ _ f)
+      go : (t o l h : Bool) → tidy k bytes ≡ t → sound S k (decode bytes) ≡ o → leb limit (decode bytes .fed) ≡ l → leb (S .m) a ≡ h
+          → Ready k bytes a (judged S k bytes a .reply)
+      go false o l h t q f g e = let z : true ≡ false = rw (judged, t) at e in absurd (true≢false z)
+      go true false l h t q f g e = let z : true ≡ false = rw (judged, t, feed, q) at e in absurd (true≢false z)
+      go true true true h t q f g e = let z : true ≡ false = rw (judged, t, feed, q, f) at e in absurd (true≢false z)
+      go true true false true t q f g e = let z : true ≡ false = rw (judged, t, feed, q, f, g) at e in absurd (true≢false z)
+      go true true false false t q f g e = (t, leb-false _ _ f, omega (arith, leb-false (S .m) a g))
 
 -- a refusal keeps the bytes
 pub fed-kept : (k : ℕ) (bytes : List ℕ) (a : ℕ) (reply : Reply) → isRefusal reply ≡ true → bytes ≡ fedInto k bytes a reply

@@ -57,6 +57,6 @@ fedInto k bytes a reply = written k bytes (after k (decode bytes) (suc (decode b
 unfoldable pub openedInto : ℕ → List ℕ → Reply → List ℕ
 openedInto k bytes reply = written k bytes (after k unopened 0 [] reply) reply
 
--- A letter is taken only into a tidy record that is not full.
-abbrev pub Ready : ℕ → List ℕ → Reply → Type 0
-Ready k bytes reply = isRefusal reply ≡ false → (tidy k bytes ≡ true) × (decode bytes .fed < limit)
+-- A letter is taken only into a tidy record that is not full, and only if it is a byte.
+abbrev pub Ready : ℕ → List ℕ → ℕ → Reply → Type 0
+Ready k bytes letter reply = isRefusal reply ≡ false → (tidy k bytes ≡ true) × (decode bytes .fed < limit) × (letter < 256)

@@ -78,7 +78,7 @@ fn due(
     k: usize,
     base: u64,
     held: &[u8],
-    letter: u8,
+    letter: usize,
     next: u64,
 ) -> u64
     requires { ⌜ Fit n m (now sets) × (base < 2 ^ n) × Letters m (now held) × (letter < m) × (k ≤ suc (length (now held))) × ¬ (next ≡ 0) × ((starts : ℕ) → next ≡ setOf n (reach (successors n m starts (now sets)) (has base) (now held ++ (letter ∷ [])))) ⌝ }
@@ -92,7 +92,7 @@ fn due(
     if u64::count_ones(here) == 1 {
         return here; // the way that led to `next` goes on from it
     }
-    walks::survivors_with(sets, n, m, here, &held[i..], letter as usize)
+    walks::survivors_with(sets, n, m, here, &held[i..], letter)
 }
 
 // A position is resolved where one state is possible.
@@ -111,7 +111,15 @@ fn resolution(position: usize, set: u64) -> Answer
 }
 
 // The answer to a letter; nothing is written.
-fn decide(sets: &[u64], n: usize, m: usize, k: usize, starts: u64, rec: &[u8], letter: u8) -> Answer
+fn decide(
+    sets: &[u64],
+    n: usize,
+    m: usize,
+    k: usize,
+    starts: u64,
+    rec: &[u8],
+    letter: u32,
+) -> Answer
     requires { ⌜ Fit n m (now sets) × (starts < 2 ^ n) × (8 + k ≤ length (now rec)) × (k ≤ 2016) ⌝ }
     ensures { λ r. ⌜ said r ≡ judged (successors n m starts (now (sets .entry))) k (now (rec .entry)) letter .reply ⌝ }
 {
@@ -123,7 +131,7 @@ fn decide(sets: &[u64], n: usize, m: usize, k: usize, starts: u64, rec: &[u8], l
     if fed == 1000000 {
         return Answer::Refused(11);
     }
-    let a = records::wide(letter);
+    let a = letter as usize;
     if m <= a {
         return Answer::Refused(12);
     }
@@ -137,7 +145,7 @@ fn decide(sets: &[u64], n: usize, m: usize, k: usize, starts: u64, rec: &[u8], l
     }
     let base = base_of(k, starts, fed, rec[4]);
     let end = 8 + records::held_of(rec);
-    let set = due(sets, n, m, k, base, &rec[8..end], letter, next.set);
+    let set = due(sets, n, m, k, base, &rec[8..end], a, next.set);
     resolution(taken - k, set)
 }
 
@@ -181,15 +189,15 @@ fn last_after(answer: Answer, last: u8) -> u8
 }
 
 // What an answer leaves of a record that a letter was fed to.
-fn apply(rec: &mut [u8], k: usize, letter: u8, answer: Answer)
-    requires { ⌜ (8 + k ≤ length (now rec)) × Ready k (now rec) (said answer) ⌝ }
+fn apply(rec: &mut [u8], k: usize, letter: u32, answer: Answer)
+    requires { ⌜ (8 + k ≤ length (now rec)) × Ready k (now rec) letter (said answer) ⌝ }
     ensures { λ _. ⌜ now (rec .exit) ≡ fedInto k (now (rec .entry)) letter (said answer) ⌝ }
 {
     if is_refusal(answer) {
         return;
     }
     let last = last_after(answer, rec[4]);
-    records::keep(rec, k, letter, last);
+    records::keep(rec, k, letter as u8, last);
 }
 
 // What an answer leaves of a record that was opened.
@@ -258,8 +266,8 @@ pub fn open(table: &[u64], rec: &mut [u8]) -> Answer
     answer
 }
 
-// One letter more.
-pub fn feed(table: &[u64], rec: &mut [u8], letter: u8) -> Answer
+// One letter more; it may be any number.
+pub fn feed(table: &[u64], rec: &mut [u8], letter: u32) -> Answer
     ensures { λ r. ⌜ Feeds (now (table .entry)) (now (rec .entry)) letter r (now (rec .exit)) ⌝ }
 {
     if table::is_unfit(table) {

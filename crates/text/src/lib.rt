@@ -148,7 +148,7 @@ pub fn feed(table: &[u64], rec: &mut [u8], letters: &[u8], out: &mut [u8]) -> Pr
     }
     let mut at = 0;
     for i in 0..letters.len() {
-        let answer = predictor::feed(table, rec, letters[i]);
+        let answer = predictor::feed(table, rec, letters[i] as u32);
         at = reply(out, at, answer);
         if is_refusal(answer) {
             return Printed::Ended(at);

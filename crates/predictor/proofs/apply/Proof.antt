@@ -1,10 +1,20 @@
 -- `apply` meets its contract.
 -- Assumes nothing.
-use mathlib.Core.Path.{sym, _∙_}
+use Prim.Native.Nat.{_<_}
+use mathlib.Core.Bool.{true}
+use mathlib.Core.Path.{_≡_, sym, _∙_}
+use native.Mathlib.Omega.{arith}
+use Rattle.semiautomata.specs.PlainWalk.{limit}
+use Rattle.records.specs.Bytes.{decode, tidy}
 use Rattle.predictor.proofs.Judging.{fed-kept, fed-taken}
 use borrow.Author.Needs.{needs}
 use Rattle.predictor.proofs.apply.Statement.{statement}
 use Rattle.predictor.proofs.apply.Tie as tie
+
+-- what is known of the record and the letter where the answer is no refusal
+ready : (c : tie.Else1) → let a = c .before .before .before .args in
+    (tidy (a .k) (a .rec .now) ≡ true) × (decode (a .rec .now) .fed < limit) × (a .letter < 256)
+ready c = c .before .before .before .pre .1 (sym (c .before .is-refusal .ensures) ∙ c .if1 .left)
 
 is-refusal-requires : tie.Need-is-refusal-requires
 is-refusal-requires c κs = search needs
@@ -18,12 +28,14 @@ slice-read-last-after c = search needs
 last-after-requires : tie.Need-last-after-requires
 last-after-requires c κs = search needs
 
+cast-keep : tie.Need-cast-keep
+cast-keep c = omega (arith, ready (c .before .before .before) .2)
+
 keep-requires : tie.Need-keep-requires
 keep-requires c κs =
     let e = c .before .before .before in
-    let p = e .before .before .before .pre in
-    let (tidy, room) = p .1 (sym (e .before .is-refusal .ensures) ∙ e .if1 .left) in
-    (p .0, tidy, room)
+    let (tidied, room, _) = ready e in
+    (e .before .before .before .pre .0, tidied, room)
 
 same-length : tie.Need-same-length
 same-length c = search needs
@@ -39,6 +51,7 @@ apply-spec =
     returns
     slice-read-last-after
     last-after-requires
+    cast-keep
     keep-requires
     same-length
     returns-2)

@@ -1,7 +1,7 @@
 -- `decide` meets its contract: each return has what its tests showed.
 -- Assumes nothing.
 use Prim.Native.Nat.{ℕ, _+_, _-_, _≤_, _<_}
-use mathlib.Core.Path.{_≡_, _∙_, ap}
+use mathlib.Core.Path.{_≡_}
 use native.Mathlib.Omega.{arith}
 use lib.ListN.{take, drop}
 use Rattle.bitset.specs.Sets.{has, setOf}
@@ -26,7 +26,7 @@ abbrev from-2 : tie.Else2 → tie.Else1
 from-2 c = c .before .before
 
 abbrev from-3 : tie.Else3 → tie.Else2
-from-3 c = c .before .before
+from-3 c = c .before
 
 abbrev from-4 : tie.Else4 → tie.Else3
 from-4 c = c .before .before .before
@@ -49,14 +49,14 @@ unfolding limit
 room c = omega (arith, stands (from-2 c) .keeps .fed-le, c .before .fed-of .ensures, c .if2 .left)
 
 below : (c : tie.Else3) → let a = start (from-2 (from-3 c)) .args in a .letter < a .m
-below c = omega (arith, c .before .wide .ensures .0, c .if3 .left)
+below c = c .if3 .left
 
 next : (c : tie.After-gather) → let e = from-2 (from-3 (c .before)) in let s = start e in
     c .gather .result .set ≡ setOf (s .args .n) (step (meaning s) (has (e .before .stand .result)) (s .args .letter))
 next c =
     let e = from-2 (from-3 (c .before)) in
     let s = start e in
-    c .gather .ensures .0 (s .args .starts) ∙ ap (λ (a : ℕ). setOf (s .args .n) (step (meaning s) (has (e .before .stand .result)) a)) (c .before .before .wide .ensures .0)
+    c .gather .ensures .0 (s .args .starts)
 
 few : (c : tie.After-held-of) → c .held-of .result ≤ start (from-2 (from-3 (from-4 (from-held c .before)))) .args .k
 few c = omega (arith, stands (from-2 (from-3 (from-4 (from-held c .before)))) .keeps .held-is, c .held-of .ensures)
@@ -81,14 +81,11 @@ returns-2 : tie.Need-returns-2
 unfolding limit
 returns-2 c = let e = c .before .before in judged-11 (stands e) (by (start e)) _ (omega (arith, c .before .fed-of .ensures, c .if2 .taken))
 
-wide-requires : tie.Need-wide-requires
-wide-requires c κs = search needs
-
 returns-3 : tie.Need-returns-3
 returns-3 c =
-    let e = c .before .before in
+    let e = c .before in
     let d = from-2 e in
-    judged-12 (stands d) (by (start d)) _ (room e) (omega (arith, c .before .wide .ensures .0, c .if3 .taken))
+    judged-12 (stands d) (by (start d)) _ (room e) (c .if3 .taken)
 
 gather-requires : tie.Need-gather-requires
 gather-requires c κs = let d = from-2 (from-3 c) in (start d .pre .0, rw (stands d .is) (setOf-lt _ _), c .if3 .left)
@@ -179,7 +176,6 @@ decide-spec =
     returns
     fed-of-requires
     returns-2
-    wide-requires
     returns-3
     gather-requires
     returns-4

@@ -59,7 +59,9 @@ decide-requires : tie.Need-decide-requires
 decide-requires c κs = let f = fits (from-2 (c .before .before .before)) in (rw (lent f) (f .fit), f .initial, c .before .before .before .if2 .left, lookahead-le f)
 
 apply-requires : tie.Need-apply-requires
-apply-requires c κs = (c .before .before .before .before .before .if2 .left, rw (answer (c .before)) (judged-ready _ _ _ _))
+apply-requires c κs =
+    let e = c .before .before .before .before .before in
+    (e .if2 .left, rw (answer (c .before)) (judged-ready _ _ _ _ (fits (from-2 e) .letters)))
 
 same-length : tie.Need-same-length
 same-length c = search needs

@@ -24,6 +24,9 @@ loop-holds c = (omega arith, upto-none _ _ _ _)
 shared-slice-read-feed : tie.Need-shared-slice-read-feed Inv-loop μ-loop
 shared-slice-read-feed c = omega arith
 
+cast-feed : tie.Need-cast-feed Inv-loop μ-loop
+cast-feed c = omega (arith, c .shared-slice-known3 .given (c .before .before .before .loop .i))
+
 feed-requires : tie.Need-feed-requires Inv-loop μ-loop
 feed-requires c κs = tt
 
@@ -73,6 +76,7 @@ feed-spec =
     returns
     loop-holds
     shared-slice-read-feed
+    cast-feed
     feed-requires
     reply-requires
     is-refusal-requires
