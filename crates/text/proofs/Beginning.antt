@@ -2,7 +2,7 @@
 -- Assumes nothing.
 use Prim.Native.Nat.{ℕ, _+_, _*_, _≤_}
 use mathlib.Core.Bool.{Bool, true, false, _||_, true≢false}
-use mathlib.Core.Path.{_≡_, sym, refl, _∙_}
+use mathlib.Core.Path.{_≡_, refl, _∙_, ap}
 use mathlib.Core.List.{List, [], _++_, append-assoc, append-nil}
 use native.Mathlib.Nat.{le-trans, mul-le-mul-left, mul-le-mul-right}
 use native.Mathlib.Omega.{arith}
@@ -13,7 +13,7 @@ use borrow.Author.Tests.{le-ltb, ltb-false}
 use Rattle.semiautomata.specs.Semiautomaton.{Semiautomaton}
 use Rattle.semiautomata.specs.Predictability.{Lookahead, Unpredictable}
 use Rattle.plan.specs.declared.Reading.the-variants.{Counts, Refused}
-use Rattle.plan.specs.Bytes.{headerOf, meaning, refusal, reading, WellFormed}
+use Rattle.plan.specs.Bytes.{headerOf, meaning, refusal, PlanCounts, outcomeOfReading, reading, WellFormed}
 use Rattle.plan.proofs.Refusals.{well-formed-range}
 use Rattle.table.specs.Table.{lookaheadOf, tableMeaning}
 use Rattle.prepare.specs.Preparing.{prepareRefusal, Tabled}
@@ -112,9 +112,9 @@ module _ (input : List ℕ) (e : noPlan input ≡ false) (rest : List ℕ) where
   report-ill n = rw (← same-plan) (ill-formed still-plan (λ w. n (rw same-plan at w)))
 
 -- what is read of the plan
-module _ (plan : List ℕ) {n m s l : ℕ} (d : Counts n m s l ≡ reading plan) where
+module _ (plan : List ℕ) {n m s l : ℕ} (d : outcomeOfReading (Counts n m s l) ≡ reading plan) where
   read-counts : WellFormed plan × (countsLine n m s l ≡ countsOf (headerOf plan))
-  read-counts = let (w, is) = reading-well plan (sym d) in (w, (cc))
+  read-counts = let (w, is) = reading-well plan d in (w, ap (λ (c : PlanCounts). countsLine (c .n) (c .m) (c .p) (c .e)) is)
 
   pub read-well : WellFormed plan
   read-well = read-counts .0
@@ -125,14 +125,14 @@ module _ (input : List ℕ) {old : List ℕ} where
   begun-no-plan e p = lays-last (ReportText input) p (λ rest told. no-plan (told e))
 
   module _ (e : noPlan input ≡ false) where
-    pub begun-ill : (number : ℕ) → Refused number ≡ reading (planOf input) → {r : ℕ} {out : List ℕ} → Appended old 0 (refusedLine number) r out
+    pub begun-ill : (number : ℕ) → outcomeOfReading (Refused number) ≡ reading (planOf input) → {r : ℕ} {out : List ℕ} → Appended old 0 (refusedLine number) r out
         → ¬ WellFormed (planOf input) × Laid (ReportText input) old 0 r out (λ rest. [])
     begun-ill number d p =
-        let (is, n) = reading-refused (planOf input) (sym d) in
+        let (is, n) = reading-refused (planOf input) d in
         let ill : ¬ WellFormed (planOf input) = λ w. n (is ∙ w) in
         (ill, lays-last (ReportText input) p (λ rest _. rw is (report-ill input e rest ill)))
 
-    module _ {n m s l : ℕ} (d : Counts n m s l ≡ reading (planOf input)) {at : ℕ} {mid : List ℕ} (p : Appended old 0 (countsLine n m s l) at mid) where
+    module _ {n m s l : ℕ} (d : outcomeOfReading (Counts n m s l) ≡ reading (planOf input)) {at : ℕ} {mid : List ℕ} (p : Appended old 0 (countsLine n m s l) at mid) where
       begun : {r : ℕ} {out : List ℕ} {later : List ℕ → List ℕ} → Laid (AfterCounts (meaning (planOf input))) mid at r out later
           → Laid (ReportText input) old 0 r out (λ rest. later (lettersOf input ++ rest))
       begun {later = later} a =

@@ -8,7 +8,7 @@ use native.Mathlib.Omega.{arith}
 use lib.ListN.{length, take}
 use lib.Seq.{length-take-le}
 use Rattle.plan.specs.declared.Reading.the-variants.{Counts, Refused}
-use Rattle.plan.specs.Bytes.{reading}
+use Rattle.plan.specs.Bytes.{outcomeOfReading, reading}
 use Rattle.text.specs.Lines.{countsLine}
 use Rattle.text.specs.Report.{noPlan, planOf}
 use Rattle.text.specs.Calls.{tableSize, recordSize, beginWidth, unread}
@@ -28,11 +28,11 @@ is-plan c = sym (c .before .no-plan .ensures) ∙ c .if2 .left
 part : (c : tie.After-total) → take (c .total .result) (c .before .before .before .before .before .before .before .before .args .input .now) ≡ planOf (c .before .before .before .before .before .before .before .before .args .input .now)
 part c = rw (c .total .ensures .0)
 
-ill : (c : tie.After-reading) → Refused (c .reading .given .0 .0) ≡ reading (planOf (c .before .before .before .before .before .before .before .before .before .before .before .before .args .input .now))
-ill c = sym (c .reading .given .1) ∙ rw (part (c .before .before .before .before)) at (c .before .before .read .ensures)
+ill : (c : tie.After-reading) → outcomeOfReading (Refused (c .reading .given .0 .0)) ≡ reading (planOf (c .before .before .before .before .before .before .before .before .before .before .before .before .args .input .now))
+ill c = rw (c .reading .given .1, part (c .before .before .before .before)) at (c .before .before .read .ensures)
 
-counted : (c : tie.After-reading2) → let r = c .reading2 .given .0 in Counts (r .0) (r .1 .0) (r .1 .1 .0) (r .1 .1 .1 .0) ≡ reading (planOf (c .before .before .before .before .before .before .before .before .before .before .before .before .args .input .now))
-counted c = sym (c .reading2 .given .1) ∙ rw (part (c .before .before .before .before)) at (c .before .before .read .ensures)
+counted : (c : tie.After-reading2) → let r = c .reading2 .given .0 in outcomeOfReading (Counts (r .0) (r .1 .0) (r .1 .1 .0) (r .1 .1 .1 .0)) ≡ reading (planOf (c .before .before .before .before .before .before .before .before .before .before .before .before .args .input .now))
+counted c = rw (c .reading2 .given .1, part (c .before .before .before .before)) at (c .before .before .read .ensures)
 
 counts-few : (c : tie.After-known-told2) → let r = c .before .reading2 .given .0 in length (countsLine (r .0) (r .1 .0) (r .1 .1 .0) (r .1 .1 .1 .0)) ≤ 50
 counts-few c =

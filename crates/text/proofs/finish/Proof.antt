@@ -15,7 +15,7 @@ use Rattle.text.proofs.finish.Tie as tie
 few : (c : tie.After-ended2) → let s = c .before .before .before .before .before .before .before .before .before in
     (c .ended2 .given .0 .0 ≡ length (ended (s .args .table .now) (s .args .rec .now))) × (c .ended2 .given .0 .0 ≤ 2016)
 few c =
-    let (_, e, is) = rw (c .ended2 .given .1) at (c .before .before .before .finish .ensures) in
+    let (_, (e, is)) = rw (c .ended2 .given .1) at (c .before .before .before .finish .ensures) in
     let s = c .before .before .before .before .before .before .before .before .before in
     (e, omega (arith, e, ended-few (ended (s .args .table .now) (s .args .rec .now)) (replicate 2016 0) (c .before .before .before .finish .last .1 .1 .0) is (c .before .before .before .finish .kept .1 .1 .0)))
 
@@ -73,7 +73,7 @@ same-length-2 c = search needs
 returns-3 : tie.Need-returns-3
 returns-3 c = let e = c .before .before .before .before .before .before .before .before in
     let s = c .before .before .before .before .before .before .before .before .before .before .before .before .before .before .before .before .before in
-    let (z, _, is) = rw (e .ended2 .given .1) at (c .before .before .before .before .before .before .before .before .before .before .before .finish .ensures) in (
+    let (z, (_, is)) = rw (e .ended2 .given .1) at (c .before .before .before .before .before .before .before .before .before .before .before .finish .ensures) in (
       omega (arith, c .before .before .before .before .before .before .before .before .before .before .before .before .before .if1 .left),
       finished-open (s .args .table .now) (s .args .rec .now) z (e .ended2 .given .0 .0) (c .before .before .before .before .before .less .result) (c .before .before .before .before .before .before .before .before .before .before .before .finish .last .1 .1 .0) _ (few e .0) is
           (c .before .before .before .before .before .less .ensures ∙ ap (λ (x : ℕ). x + 1 - e .ended2 .given .0 .0) (c .before .before .before .before .before .before .fed-of .ensures .0)) (c .before .before .open-lines .ensures),

@@ -6,7 +6,7 @@ use lib.ListN.{length}
 use Rattle.semiautomata.specs.Predictability.{Lookahead}
 use Rattle.plan.specs.Bytes.{meaning}
 use Rattle.prepare.specs.Preparing.{Tabled}
-use Rattle.prepare.proofs.Theorems.{shown-never}
+use Rattle.prepare.proofs.Promises.{shown-never, prepare-refused-so}
 use Rattle.text.specs.Calls.{unpredictable, opens}
 use Rattle.text.proofs.Lines.{appended-long}
 use Rattle.text.proofs.Widths.{lookahead-width, refused-width}
@@ -17,7 +17,7 @@ use Rattle.text.proofs.prepared.Tie as tie
 
 ready : (c : tie.After-prepared) → let s = c .before .before .before .before .before .before .before .before .before .before .before .before in
     Lookahead (meaning (s .args .plan .now)) (c .prepared .given .0 .0) × Tabled (meaning (s .args .plan .now)) (c .prepared .given .0 .0) (s .args .table .now) (c .before .before .before .before .before .prepare .last .1 .0)
-ready c = let (_, l, t, _) = rw (c .prepared .given .1) at (c .before .before .before .before .before .prepare .ensures) in (l, t)
+ready c = let ((_, l), t, _) = rw (c .prepared .given .1) at (c .before .before .before .before .before .prepare .ensures) in (l, t)
 
 slice-aggregate-prepare : tie.Need-slice-aggregate-prepare
 slice-aggregate-prepare c = search needs
@@ -71,7 +71,7 @@ same-length-5 c = search needs
 
 returns-2 : tie.Need-returns-2
 returns-2 c = let s = c .before .before .before .before .before .before .before .before .before .before .before .before .before .before .before .before .before in
-    let (e, n, _, _) = rw (c .before .before .before .before .before .prepared2 .given .1) at (c .before .before .before .before .before .before .before .before .before .before .prepare .ensures) in
+    let (e, n, _, _) = prepare-refused-so (s .args .plan .now) (rw (c .before .before .before .before .before .prepared2 .given .1) at (c .before .before .before .before .before .before .before .before .before .before .prepare .ensures)) in
     absurd (n (e ∙ prepare-taken (s .args .plan .now) (s .pre .0) (length (s .args .table .now)) 4096 (s .pre .1) (omega arith)))
 
 same-length-6 : tie.Need-same-length-6
@@ -81,7 +81,8 @@ same-length-7 : tie.Need-same-length-7
 same-length-7 c = search needs
 
 returns-3 : tie.Need-returns-3
-returns-3 c = let (_, e, kept) = rw (c .before .before .before .before .enum-told .given .1) at (c .before .before .before .before .before .before .before .before .before .prepare .ensures) in
+returns-3 c =
+    let (_, kept, e) = rw (c .before .before .before .before .enum-told .given .1) at (c .before .before .before .before .before .before .before .before .before .prepare .ensures) in
     (never-counted (shown-never e) (c .before .before .refused2 .ensures), unpredictable (shown-never e) refl kept refl)
 
 pub prepared-spec : {M : Type 1} → statement M
