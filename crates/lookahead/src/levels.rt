@@ -157,7 +157,8 @@ pub fn settle(sets: &[u64], n: usize, m: usize, starts: u64) -> Levels
             high: 0,
         };
     }
-    let back = rows::turn(sets, n, m);
+    let mut back = [0u64; 2048];
+    rows::turn(&mut back, sets, n, m);
     loop {
         let last = strike(sets, n, m, &live, &look);
         if last.gone == 0 {

@@ -42,17 +42,15 @@ fn lay(back: &mut [u64; 2048], rows: &[u64; 64], n: usize, m: usize, a: usize)
     }
 }
 
-// The table turned round: at each state and letter the states that the letter leads there.
-pub fn turn(sets: &[u64], n: usize, m: usize) -> [u64; 2048]
-    requires { ⌜ Fit n m (now sets) ⌝ }
-    ensures { λ z. ⌜ Turned n m (now (sets .entry)) z ⌝ }
+// The table turned round, into numbers of any kind: at each state and letter the states that the letter leads there.
+pub fn turn(back: &mut [u64; 2048], sets: &[u64], n: usize, m: usize)
+    requires { ⌜ (length (now back) ≡ 2048) × Fit n m (now sets) ⌝ }
+    ensures { λ r. ⌜ (length (now (back .exit)) ≡ 2048) × Turned n m (now (sets .entry)) (now (back .exit)) ⌝ }
 {
-    let mut back = [0u64; 2048];
     for a in 0..m {
         let rows = column(sets, n, m, a);
-        lay(&mut back, &rows, n, m, a);
+        lay(back, &rows, n, m, a);
     }
-    back
 }
 
 // The pairs that some critical set has both states of.

@@ -66,13 +66,13 @@ pub fn evidence(
     ensures { λ r. ⌜ Answers (successors n m starts (now (sets .entry))) (Answer.Never r) (now (letters .entry)) (now (letters .exit)) ⌝ }
 {
     let set = critical_set(sets, n, m, starts, low, high);
-    let mut seen = [0usize; 4096];
+    let mut seen = [0u16; 4096];
     let mut x = low;
     let mut y = high;
     let mut at = x * n + y;
     let mut i: usize = 0;
     while seen[at] == 0 {
-        seen[at] = i + 1;
+        seen[at] = (i + 1) as u16;
         let step = levels::lead(sets, n, m, live, x, y);
         letters[i] = step.letter as u8;
         x = step.first;
@@ -80,7 +80,7 @@ pub fn evidence(
         at = x * n + y;
         i += 1;
     }
-    let marked = seen[at];
+    let marked = seen[at] as usize;
     let stem = marked - 1;
     let cycle = i - stem;
     Evidence {

@@ -2,7 +2,7 @@
 -- Assumes nothing.
 use Prim.Native.Nat.{suc, _*_, _<_, _-_}
 use mathlib.Core.Bool.{true≢false, false≢true}
-use mathlib.Core.Path.{_≡_}
+use mathlib.Core.Path.{_≡_, sym}
 use native.Mathlib.Nat.{mul-le-mul}
 use native.Mathlib.Numerals.{add-one}
 use native.Mathlib.Omega.{arith}
@@ -28,7 +28,7 @@ abbrev μ-loop : tie.MeasureT-loop
 
 -- from a turn back to the start, and from its second part to its beginning
 abbrev start : tie.At-loop Inv-loop μ-loop → tie.Start Inv-loop μ-loop
-start c = c .before .before .before .before .before .before .before .before .before .before
+start c = c .before .before .before .before .before .before .before .before .before .before .before
 
 abbrev turn : tie.Else2 Inv-loop μ-loop → tie.At-loop Inv-loop μ-loop
 turn c = c .before .before .before .before
@@ -36,8 +36,11 @@ turn c = c .before .before .before .before
 abbrev meaning : tie.At-loop Inv-loop μ-loop → Semiautomaton
 meaning c = let a = start c .args in successors (a .n) (a .m) (a .starts) (a .sets .now)
 
-abbrev rivals-are : (c : tie.At-loop Inv-loop μ-loop) → Rivalry (meaning c) (c .before .before .before .before .before .before .before .before .rivals .result)
-rivals-are c = c .before .before .before .before .before .before .before .before .rivals .ensures
+abbrev paired : tie.At-loop Inv-loop μ-loop → tie.After-rivals Inv-loop μ-loop
+paired c = c .before .before .before .before .before .before .before .before .before
+
+abbrev rivals-are : (c : tie.At-loop Inv-loop μ-loop) → Rivalry (meaning c) (paired c .rivals .result)
+rivals-are c = paired c .rivals .ensures
 
 early : (c : tie.Else2 Inv-loop μ-loop) → turn c .loop .rounds < start (turn c) .args .n * start (turn c) .args .n
 early c =
@@ -74,12 +77,15 @@ returns c =
     ((λ _. record { enough = no-clash _ _ _ _ (p .0) (p .1) (i .level) (c .before .before .before .before .before .before .rivals .ensures) apart; least = i .clashed }), λ e. absurd (false≢true e))
 
 turn-requires : tie.Need-turn-requires Inv-loop μ-loop
-turn-requires c κs = c .before .before .before .before .before .before .before .before .pre .0
+turn-requires c κs = (search needs, c .before .before .before .before .before .before .before .before .before .pre .0)
 
 loop-holds : tie.Need-loop-holds Inv-loop μ-loop
 loop-holds c =
-    let p = c .before .before .before .before .before .before .before .before .before .pre in
-    (at-first _ _ _ _ (p .0) (p .1) (c .before .before .before .before .before .before .mask .result) (c .before .before .before .before .before .before .mask .ensures), c .before .before .before .common .ensures .0 (not-false _ (c .before .if1 .left)))
+    let k = c .before .before .before .before .before .before .before in
+    let p = k .before .before .before .pre in (
+      at-first _ _ _ _ (p .0) (p .1) (k .mask .result) (k .mask .ensures),
+      c .before .before .before .before .common .ensures .0 (not-false _ (c .before .before .if1 .left)),
+    )
 
 strike-requires : tie.Need-strike-requires Inv-loop μ-loop
 strike-requires c κs = start (c .before .before) .pre .0
@@ -112,28 +118,34 @@ returns-3 c =
     ((λ _. rw add-one (record { enough = no-clash _ _ _ _ (p .0) (p .1) (level (c .before .before .before .before .before)) (rivals-are t) apart; least = clashed-next (i .clashed) clash })), λ e. absurd (false≢true e))
 
 slice-aggregate-wake : tie.Need-slice-aggregate-wake Inv-loop μ-loop
-slice-aggregate-wake c = search needs
+slice-aggregate-wake c =
+    let t = turn (c .before .before .before .before .before .before .before .before .before .before) in sym (t .before .turn .ensures .0)
 
 wake-requires : tie.Need-wake-requires Inv-loop μ-loop
 wake-requires c κs =
-    let t = turn (c .before .before .before .before .before .before .before .before .before .before .before .before) in
+    let e = c .before .before .before .before .before .before .before .before .before .before .before .before in
+    let t = turn e in
     let p = start t .pre in
     let i = t .loop .inv .0 in
-    let long : length (t .before .turn .result) ≡ 2048 = search needs in
-    (turned-fit (p .0) long (t .before .turn .ensures), struck-fits _ _ _ _ (p .0) (p .1) (i .level) (i .work) (c .before .before .before .before .before .before .before .before .before .before .before .before .before .strike .ensures))
+    let struck = e .before .strike .ensures in (
+      turned-fit (p .0) (t .before .turn .ensures .0) (t .before .turn .ensures .1),
+      struck-fits _ _ _ _ (p .0) (p .1) (i .level) (i .work) struck,
+    )
 
 loop-less : tie.Need-loop-less Inv-loop μ-loop
 loop-less c = omega (arith, early (c .before .before .before .before .before .before .before .before .before .before .before .before .before))
 
 loop-again : tie.Need-loop-again Inv-loop μ-loop
 loop-again c =
-    let t = turn (c .before .before .before .before .before .before .before .before .before .before .before .before .before) in
+    let e = c .before .before .before .before .before .before .before .before .before .before .before .before .before in
+    let t = turn e in
     let p = start t .pre in
     let (i, two) = t .loop .inv in
+    let struck = e .before .strike .ensures in
     let clash = some-clash _ _ _ _ (p .0) (p .1) (i .level) (rivals-are t) two in (
       rw add-one (record {
         level = level (c .before .before .before .before .before .before .before .before .before);
-        work = covers-next _ _ _ _ (p .0) (p .1) (i .level) (i .work) (c .before .before .before .before .before .before .before .before .before .before .before .before .before .before .strike .ensures) (t .before .turn .ensures) (c .wake .ensures);
+        work = covers-next _ _ _ _ (p .0) (p .1) (i .level) (i .work) struck (t .before .turn .ensures .1) (c .wake .ensures);
         clashed = clashed-next (i .clashed) clash;
       }),
       c .before .before .before .before .before .before .common2 .ensures .0 (not-false _ (c .before .before .before .before .if3 .left)),

@@ -96,6 +96,9 @@ array-read-loop c = at-small c
 add-seen : tie.Need-add-seen Inv-loop μ-loop
 add-seen c = omega (arith, few c, square (c .before .before .before .before .before))
 
+cast-seen : tie.Need-cast-seen Inv-loop μ-loop
+cast-seen c = omega (arith, few c, square (c .before .before .before .before .before))
+
 mul-seen : tie.Need-mul-seen Inv-loop μ-loop
 mul-seen c = omega (arith, at-small (c .before))
 
@@ -148,16 +151,19 @@ few-states c = let st = c .before .before .before .before .before in (omega (ari
 few-letters : (c : tie.After-loop Inv-loop μ-loop) → c .before .loop .i ≤ 4096
 few-letters c = omega (arith, ended c .0, ended c .1 .short, square (c .before .before .before .before .before))
 
-cast-low : tie.Need-cast-t32 Inv-loop μ-loop
+cast-marked : tie.Need-cast-marked Inv-loop μ-loop
+cast-marked c = omega (arith, ended c .0, few-letters c)
+
+cast-low : tie.Need-cast-t33 Inv-loop μ-loop
 cast-low c = omega (arith, few-states c .0)
 
-cast-high : tie.Need-cast-t33 Inv-loop μ-loop
+cast-high : tie.Need-cast-t34 Inv-loop μ-loop
 cast-high c = omega (arith, few-states c .1)
 
-cast-stem : tie.Need-cast-t34 Inv-loop μ-loop
+cast-stem : tie.Need-cast-t35 Inv-loop μ-loop
 cast-stem c = omega (arith, ended c .0, few-letters c)
 
-cast-cycle : tie.Need-cast-t35 Inv-loop μ-loop
+cast-cycle : tie.Need-cast-t36 Inv-loop μ-loop
 cast-cycle c = omega (arith, few-letters c)
 
 same-length : tie.Need-same-length Inv-loop μ-loop
@@ -181,6 +187,7 @@ evidence-spec =
     mul-loop
     array-read-loop
     add-seen
+    cast-seen
     mul-seen
     array-write-seen
     lead-requires
@@ -193,6 +200,7 @@ evidence-spec =
     loop-again
     mul-marked
     array-read-marked
+    cast-marked
     sub-stem
     sub-cycle
     cast-low
