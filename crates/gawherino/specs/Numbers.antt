@@ -13,6 +13,8 @@ use Rattle.semiautomata.specs.Calls as reply
 use Rattle.semiautomata.specs.Outcomes.{Outcome, refused, answered}
 use Rattle.plan.specs.declared.Reading.{Reading}
 use Rattle.plan.specs.Bytes.{outcomeOfReading}
+use Rattle.plan.specs.declared.group.Group.{Group}
+use Rattle.plan.specs.declared.group.Group.the-variants.{Author, Caller, Logger, Nobody}
 use Rattle.prepare.specs.declared.Prepared.{Prepared}
 use Rattle.prepare.specs.declared.Prepared.the-variants.{Ready, Refused, Unpredictable}
 use Rattle.claim.specs.declared.Checked.{Checked}
@@ -104,3 +106,11 @@ noRoom before = refusing (lowest (before ++ short true))
 pub data PassesOn {A : Type 0} (numbers : A → Numbers) (room : ℕ) (before : List Check) (Meets : A → Type 0) (Kept : Type 0) (r : ℕ) (old more : List ℕ) : Type 0 where
   answers : room ≤ length old → (a : A) → Meets a → Passed (numbers a) r old more → PassesOn numbers room before Meets Kept r old more
   refuses : length old < room → r ≡ noRoom before → more ≡ old → Kept → PassesOn numbers room before Meets Kept r old more
+
+-- WHO CAN CAUSE A REFUSAL
+
+abbrev pub groupNumber : Group → ℕ
+groupNumber Author = 1
+groupNumber Caller = 2
+groupNumber Logger = 3
+groupNumber Nobody = 0

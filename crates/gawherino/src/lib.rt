@@ -6,13 +6,15 @@ ghost use mathlib.Core.List.{[], _∷_, _++_};
 ghost use Prim.Native.Nat.{_≤_};
 ghost use lib.ListN.{length, getD, drop};
 ghost use Rattle.plan.specs.Bytes.{planChecks};
+ghost use Rattle.plan.specs.Groups.{groupOf};
 ghost use Rattle.prepare.specs.Preparing.{Draws};
 ghost use Rattle.predictor.specs.Calls.{tableCheck};
-ghost use Rattle.gawherino.specs.Numbers.{ofPrepared, ofAnswer, Fit32, Passed, noRoom};
+ghost use Rattle.gawherino.specs.Numbers.{ofPrepared, ofAnswer, Fit32, Passed, noRoom, groupNumber};
 ghost use Rattle.gawherino.specs.Promises.{claimOf, PassesReading, PassesPrepared, PassesCount, PassesCheck, PassesWalk, PassesVerdict, PassesOpening, PassesLetter, PassesEnding};
 use claim::Checked;
 use lookahead::Evidence;
 use plan::Reading;
+use plan::group::Group;
 use predictor::Answer;
 use predictor::Ended;
 use prepare::Prepared;
@@ -21,6 +23,11 @@ use simulate::Walked;
 
 // A refusal is answered as this number plus its own.
 const REFUSED: u32 = 65536;
+
+// Room for further values: the numbers of evidence; the position of a booking.
+const EVIDENCE: usize = 6;
+
+const POSITION: usize = 1;
 
 // Values at the front of a slice that keeps its rest.
 fn put(more: &mut [u32], values: &[u32])
@@ -107,7 +114,7 @@ pub extern "C" fn gawherino_prepare(
 ) -> u32
     ensures { λ r. ⌜ PassesPrepared (now (plan .entry)) r (now (table .entry)) (now (table .exit)) (now (letters .entry)) (now (letters .exit)) (now (evidence .entry)) (now (evidence .exit)) ⌝ }
 {
-    if evidence.len() < 6 {
+    if evidence.len() < EVIDENCE {
         return no_room_on_plan(plan);
     }
     let prepared = prepare::prepare(plan, table, letters);
@@ -119,7 +126,7 @@ pub extern "C" fn gawherino_prepare(
 pub extern "C" fn gawherino_look_ahead(plan: &[u8], letters: &mut [u8], evidence: &mut [u32]) -> u32
     ensures { λ r. ⌜ PassesCount (now (plan .entry)) r (now (letters .entry)) (now (letters .exit)) (now (evidence .entry)) (now (evidence .exit)) ⌝ }
 {
-    if evidence.len() < 6 {
+    if evidence.len() < EVIDENCE {
         return no_room_on_plan(plan);
     }
     let counted = prepare::count(plan, letters);
@@ -247,7 +254,7 @@ fn pass_answer(answer: Answer, position: &mut [u32]) -> u32
 pub extern "C" fn gawherino_open(table: &[u64], rec: &mut [u8], position: &mut [u32]) -> u32
     ensures { λ r. ⌜ PassesOpening (now (table .entry)) r (now (rec .entry)) (now (rec .exit)) (now (position .entry)) (now (position .exit)) ⌝ }
 {
-    if position.len() < 1 {
+    if position.len() < POSITION {
         return no_room_on_table(table);
     }
     let answer = predictor::open(table, rec);
@@ -264,7 +271,7 @@ pub extern "C" fn gawherino_feed(
 ) -> u32
     ensures { λ r. ⌜ PassesLetter (now (table .entry)) letter r (now (rec .entry)) (now (rec .exit)) (now (position .entry)) (now (position .exit)) ⌝ }
 {
-    if position.len() < 1 {
+    if position.len() < POSITION {
         return no_room_on_table(table);
     }
     let answer = predictor::feed(table, rec, letter);
@@ -280,5 +287,24 @@ pub extern "C" fn gawherino_finish(table: &[u64], rec: &[u8], sets: &mut [u64]) 
     match ended {
         Ended::Open(count) => count as u32,
         Ended::Refused(r) => REFUSED + r as u32,
+    }
+}
+
+// REFUSALS
+
+// Who can cause a refusal: 1 for the author, 2 for the caller, 3 for the logger; 0 where the number is no refusal's.
+#[no_mangle]
+pub extern "C" fn gawherino_group(refusal: u32) -> u32
+    ensures { λ r. ⌜ r ≡ groupNumber (groupOf refusal) ⌝ }
+{
+    if refusal > 255 {
+        return 0;
+    }
+    let group = plan::group::group_of(refusal as u8);
+    match group {
+        Group::Author => 1,
+        Group::Caller => 2,
+        Group::Logger => 3,
+        Group::Nobody => 0,
     }
 }

@@ -1,0 +1,58 @@
+-- `gawherino_group` meets its contract.
+-- Assumes nothing.
+use mathlib.Core.Path.{ap, sym, _∙_}
+use native.Mathlib.Omega.{arith}
+use Rattle.plan.proofs.Groups.{nobody-high}
+use Rattle.gawherino.specs.Numbers.{groupNumber}
+use borrow.Author.Needs.{needs}
+use Rattle.gawherino.proofs.gawherino_group.Statement.{statement}
+use Rattle.gawherino.proofs.gawherino_group.Tie as tie
+
+returns : tie.Need-returns
+returns c = ap groupNumber (nobody-high (c .before .args .refusal) (omega arith))
+
+cast-group-of : tie.Need-cast-group-of
+cast-group-of c = search needs
+
+group-of-requires : tie.Need-group-of-requires
+group-of-requires c κs = search needs
+
+enum-told : tie.Need-enum-told
+enum-told c = search needs
+
+enum-told-2 : tie.Need-enum-told-2
+enum-told-2 c = search needs
+
+enum-told-3 : tie.Need-enum-told-3
+enum-told-3 c = search needs
+
+enum-told-4 : tie.Need-enum-told-4
+enum-told-4 c = search needs
+
+returns-2 : tie.Need-returns-2
+returns-2 c = ap groupNumber (sym (c .enum-told .given .1) ∙ c .before .before .group-of .ensures)
+
+returns-3 : tie.Need-returns-3
+returns-3 c = ap groupNumber (sym (c .enum-told2 .given .1) ∙ c .before .before .group-of .ensures)
+
+returns-4 : tie.Need-returns-4
+returns-4 c = ap groupNumber (sym (c .enum-told3 .given .1) ∙ c .before .before .group-of .ensures)
+
+returns-5 : tie.Need-returns-5
+returns-5 c = ap groupNumber (sym (c .enum-told4 .given .1) ∙ c .before .before .group-of .ensures)
+
+pub gawherino-group-spec : {M : Type 1} → statement M
+gawherino-group-spec =
+    tie.close
+    (tie.spec
+    returns
+    cast-group-of
+    group-of-requires
+    enum-told
+    enum-told-2
+    enum-told-3
+    enum-told-4
+    returns-2
+    returns-3
+    returns-4
+    returns-5)
