@@ -1,10 +1,32 @@
-/* Gawherino for C: every call on plans, tables and records, over plain numbers and lent slices.
+/* Gawherino for C: every call on plans, tables and records, over plain numbers and lent slices. Version 1.0.0.
  *
- * A slice is a pointer and then how many elements are lent. Each call answers a value below 65,536, or 65,536 plus the number of a
- * refusal (document 01); further values go into a lent slice, which keeps its rest. A refused call writes nothing, except that under 15
- * preparing and the count call write the evidence. A slice for further values with fewer places than are named below is refused with 9,
- * in its place among the refusals, also where the call would put nothing there. A pointer that goes with the length 0 may be anything; no
- * two slices that are lent to one call may overlap if one of them is written. No call keeps or shares anything beyond what it is lent.
+ * USE. The plan's bytes are in plan; the logger gives one code for each leg. No call allocates, so room is lent:
+ *
+ *     uint64_t table[GAWHERINO_MAX_TABLE];
+ *     uint8_t letters[GAWHERINO_MAX_LETTERS], record[GAWHERINO_MAX_RECORD];
+ *     uint32_t evidence[GAWHERINO_EVIDENCE], position[1], k, stake;
+ *     k = gawherino_prepare(plan, plan_len, table, GAWHERINO_MAX_TABLE, letters, sizeof letters, evidence, GAWHERINO_EVIDENCE);
+ *     if (GAWHERINO_IS_REFUSED(k)) return GAWHERINO_REFUSAL(k);
+ *     stake = gawherino_open(table, GAWHERINO_MAX_TABLE, record, sizeof record, position, 1);
+ *     while (!GAWHERINO_IS_REFUSED(stake)) {
+ *         if (stake != GAWHERINO_NOTHING) printf("at %u stake %u\n", (unsigned)position[0], (unsigned)stake);
+ *         stake = gawherino_feed(table, GAWHERINO_MAX_TABLE, record, sizeof record, next_code(), position, 1);
+ *     }
+ *
+ * examples/c/walk.c is a whole program, and examples/c/restart.c keeps a walk across restarts.
+ *
+ * ANSWERS. Each call answers a value below 65,536, or 65,536 plus the number of a refusal (document 01; named below). Further values go
+ * into a lent slice, which keeps its rest. A refused call writes nothing, except that under 15 preparing and the count call write the
+ * evidence. The lowest refusal that applies is given. A slice for further values with fewer places than are named at the call is refused
+ * with 9, in its place among the refusals, also where the call would put nothing there.
+ *
+ * SLICES. A slice is a pointer and then how many elements are lent: elements, not bytes. A pointer must be aligned as C asks for its type,
+ * and all its elements must be there: nothing checks that pointer and length belong together. A null pointer goes with the length 0 only;
+ * with the length 0 a pointer may be anything. No two slices that are lent to one call may overlap if one of them is written.
+ *
+ * STATE. No call keeps or shares anything beyond what it is lent: any thread may call at any time, and signal handlers too, as long as no
+ * two calls at once are lent the same slice and one of them writes it. Nothing is allocated. Of the C library only memcpy, memmove and
+ * memset are called. Each call takes a fixed stack, named below; with less it faults.
  */
 #ifndef GAWHERINO_H
 #define GAWHERINO_H
@@ -16,19 +38,126 @@
 extern "C" {
 #endif
 
+/* The version of this header. A change of a call's parameters or of the table's form raises the first number, a further call the second. */
+#define GAWHERINO_VERSION_MAJOR 1
+#define GAWHERINO_VERSION_MINOR 0
+#define GAWHERINO_VERSION_PATCH 0
+
+/* ANSWERS */
+
 /* An answer from here on is a refusal, this number plus the refusal's. */
 #define GAWHERINO_REFUSED 65536u
+/* Whether an answer is a refusal; and the refusal's number, or 0 for a value. Both evaluate their argument once. */
+#define GAWHERINO_IS_REFUSED(answer) ((uint32_t)(answer) >= GAWHERINO_REFUSED)
+#define GAWHERINO_REFUSAL(answer) gawherino_refusal(answer)
 
-/* The greatest look-ahead, numbers of a table, bytes of a record and bytes of evidence that any plan needs. */
+static inline uint32_t gawherino_refusal(uint32_t answer)
+{
+    return answer >= GAWHERINO_REFUSED ? answer - GAWHERINO_REFUSED : 0;
+}
+
+/* Opening and a leg: no stake was booked. */
+#define GAWHERINO_NOTHING 255u
+/* As the stake of a critical set, with code 0: the starts. */
+#define GAWHERINO_STARTS 255u
+
+/* Refusals by the plan's author. */
+#define GAWHERINO_BAD_TOTAL 1u      /* fewer than 16 bytes, or the total is not the byte count */
+#define GAWHERINO_BAD_EDITION 2u    /* the edition is not 1 */
+#define GAWHERINO_BAD_COUNT 3u      /* a count is out of its range */
+#define GAWHERINO_BAD_PART 4u       /* the starts or the lines begin before byte 16, end after the total, or overlap */
+#define GAWHERINO_BAD_START 5u      /* a start is not below n, or stands twice */
+#define GAWHERINO_BAD_LINE 6u       /* a line's stake is not below n, or its code not below m */
+#define GAWHERINO_LINE_TWICE 7u     /* a line stands twice */
+#define GAWHERINO_NO_LOOKAHEAD 15u  /* no k exists */
+/* By the caller. */
+#define GAWHERINO_BAD_TABLE 8u      /* the numbers are no prepared plan */
+#define GAWHERINO_SHORT_BUFFER 9u   /* a lent slice is too short */
+#define GAWHERINO_BAD_RECORD 10u    /* the bytes are no record of this table */
+#define GAWHERINO_SEVERAL_STAKES 14u /* a booking is due and two or more stakes are possible: preparing did not make this table */
+/* By the logger. */
+#define GAWHERINO_TOO_MANY_LEGS 11u /* 1,000,000 legs are taken */
+#define GAWHERINO_BAD_NUMBER 12u    /* a code or a stake in the call is not the plan's */
+#define GAWHERINO_NO_WAY 13u        /* no way on the plan fits the codes; at opening and for a whole walk: there are no starts */
+
+/* Who can cause a refusal: what gawherino_group answers. */
+#define GAWHERINO_NOBODY 0u
+#define GAWHERINO_AUTHOR 1u
+#define GAWHERINO_CALLER 2u
+#define GAWHERINO_LOGGER 3u
+
+/* SIZES */
+
+/* Of a plan: stakes n, codes m, lines e and bytes. */
+#define GAWHERINO_MAX_STAKES 64u
+#define GAWHERINO_MAX_CODES 32u
+#define GAWHERINO_MAX_LINES 4096u
+#define GAWHERINO_MAX_PLAN 65535u
+/* What any plan needs at most: its look-ahead k; the numbers of its table, 4 + n * m; the bytes of its record, 8 + k; the bytes for the
+ * codes of evidence, n * n; the sets of an ending, k. */
 #define GAWHERINO_MAX_LOOKAHEAD 2016u
 #define GAWHERINO_MAX_TABLE 2052u
 #define GAWHERINO_MAX_RECORD 2024u
 #define GAWHERINO_MAX_LETTERS 4096u
+#define GAWHERINO_MAX_SETS 2016u
+/* The most legs of one walk. */
+#define GAWHERINO_MAX_LEGS 1000000u
 
-/* No stake was booked. */
-#define GAWHERINO_NOTHING 255u
-/* With code 0: the starts, as a critical set. */
-#define GAWHERINO_STARTS 255u
+/* Places of the further values of reading, and how many there are. */
+#define GAWHERINO_COUNT_CODES 0  /* m */
+#define GAWHERINO_COUNT_STARTS 1 /* p */
+#define GAWHERINO_COUNT_LINES 2  /* e */
+#define GAWHERINO_COUNTS 3
+
+/* Places of evidence and of a claim, and how many there are: the critical set's stake and code, two stakes s < t of it, and how many codes
+ * the lead-in and the loop have. */
+#define GAWHERINO_EVIDENCE_STAKE 0
+#define GAWHERINO_EVIDENCE_CODE 1
+#define GAWHERINO_EVIDENCE_S 2
+#define GAWHERINO_EVIDENCE_T 3
+#define GAWHERINO_EVIDENCE_LEAD_IN 4
+#define GAWHERINO_EVIDENCE_LOOP 5
+#define GAWHERINO_EVIDENCE 6
+
+/* Places of the sets of a verdict, and how many there are. */
+#define GAWHERINO_VERDICT_WALKS 0       /* the stakes of the set that can walk the word */
+#define GAWHERINO_VERDICT_NONSELECTED 1 /* those for which it is a maximal nonselector */
+#define GAWHERINO_VERDICT 2
+
+/* Bytes of stack that a call takes at most, measured by conformance/stack.sh and rounded up; the greatest of them. */
+#define GAWHERINO_STACK_READ 16640u
+#define GAWHERINO_STACK_PREPARE 70656u
+#define GAWHERINO_STACK_LOOK_AHEAD 70656u
+#define GAWHERINO_STACK_COUNT 74752u
+#define GAWHERINO_STACK_CHECK 33280u
+#define GAWHERINO_STACK_WALK 256u
+#define GAWHERINO_STACK_JUDGE 512u
+#define GAWHERINO_STACK_OPEN 256u
+#define GAWHERINO_STACK_FEED 256u
+#define GAWHERINO_STACK_FINISH 16384u
+#define GAWHERINO_STACK_GROUP 256u
+#define GAWHERINO_MAX_STACK 74752u
+
+/* FORMS
+ *
+ * A set of stakes is a 64-bit number, bit s for stake s.
+ *
+ * A plan is bytes: document 01 and README.md have their layout.
+ *
+ * A table is 64-bit numbers: n, m, k, the starts, then at 4 + stake * m + code the set of stakes that the code leads to. They stand in the
+ * machine's own byte order: keep the plan, and prepare it again on each machine.
+ *
+ * A record is bytes, the same on every machine. It may be stored, copied and sent. It is a walk on one table and does not say on which; it
+ * has no checksum, and a torn one may pass for another record (examples/c/restart.c shows how to keep it).
+ *
+ *     bytes 0 to 3   legs taken, little-endian, at most 1,000,000
+ *     byte  4        the last booked stake; 255 before the first
+ *     byte  5        0
+ *     bytes 6, 7     how many codes are held, little-endian: the smaller of the legs taken and k
+ *     from byte 8    k bytes: the held codes, oldest first, then zeros
+ */
+
+/* CALLS ON A PLAN */
 
 /* Reading a plan: n; into counts (3): m, p and e. Refused with 1 to 7, 9. */
 uint32_t gawherino_read(const uint8_t *plan, size_t plan_len, uint32_t *counts, size_t counts_len);
@@ -51,6 +180,8 @@ uint32_t gawherino_count(const uint8_t *plan, size_t plan_len);
 uint32_t gawherino_check(const uint8_t *plan, size_t plan_len, const uint32_t *claim, size_t claim_len, const uint8_t *letters,
                          size_t letters_len);
 
+/* CALLS ON A TABLE */
+
 /* A whole walk: 0; into length (1): g; into sets (one more than the word has codes): the possible stakes at 0 to g.
  * Refused with 8, 9, 12, 13. */
 uint32_t gawherino_walk(const uint64_t *table, size_t table_len, const uint8_t *word, size_t word_len, uint64_t *sets, size_t sets_len,
@@ -61,17 +192,23 @@ uint32_t gawherino_walk(const uint64_t *table, size_t table_len, const uint8_t *
 uint32_t gawherino_judge(const uint64_t *table, size_t table_len, uint32_t state, uint32_t letter, const uint8_t *word, size_t word_len,
                          uint64_t *sets, size_t sets_len);
 
-/* Opening a walk on a record (8 + k bytes): the booked stake, with its position into position (1), or 255 if none was booked.
- * Refused with 8, 9, 13, 14. */
+/* Opening a walk on a record (8 + k bytes, of any content): the booked stake, with its position into position (1), or 255 if none was
+ * booked. Refused with 8, 9, 13, 14. */
 uint32_t gawherino_open(const uint64_t *table, size_t table_len, uint8_t *rec, size_t rec_len, uint32_t *position, size_t position_len);
 
-/* A leg: answers as opening does. Refused with 8 to 14. */
-uint32_t gawherino_feed(const uint64_t *table, size_t table_len, uint8_t *rec, size_t rec_len, uint8_t letter, uint32_t *position,
+/* A leg, its code any number: answers as opening does. Refused with 8 to 14; 12 if the code is not below m. */
+uint32_t gawherino_feed(const uint64_t *table, size_t table_len, uint8_t *rec, size_t rec_len, uint32_t letter, uint32_t *position,
                         size_t position_len);
 
 /* Ending a walk: how many positions are not booked; into sets (room for k is needed, and as many are written as is answered): their
- * possible stakes, lowest position first. Refused with 8, 9, 10. */
+ * possible stakes, lowest position first. The record is kept, and the walk may go on. Refused with 8, 9, 10. */
 uint32_t gawherino_finish(const uint64_t *table, size_t table_len, const uint8_t *rec, size_t rec_len, uint64_t *sets, size_t sets_len);
+
+/* REFUSALS */
+
+/* Who can cause a refusal, given its number as GAWHERINO_REFUSAL gives it: GAWHERINO_AUTHOR, _CALLER or _LOGGER; GAWHERINO_NOBODY for a
+ * number that is no refusal's. */
+uint32_t gawherino_group(uint32_t refusal);
 
 #ifdef __cplusplus
 }

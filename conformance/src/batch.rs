@@ -83,14 +83,14 @@ fn record_calls(r: &mut Random, table: &[u64], plan: &Plan, k: usize, rec: &[u8]
     let padding = r.bytes(8);
     rec.extend(padding);
     rec.truncate(length);
-    let letter = if r.percent(10) { r.pick(&[plan.m as u8, 255, 64]) } else { r.below(plan.m) as u8 };
+    let letter = if r.percent(15) { random::stray_code(r, plan.m) } else { r.pick(&[r.clone().below(plan.m), plan.m - 1]) as u32 };
     let mut letters = vec![letter];
     // the leg that can be walked behind the held codes, if the record is sound
     if rec.len() >= 8 + k {
         let record = record::Record::from_bytes(&rec, k);
-        letters.extend((0..plan.m as u8).find(|&code| record::feed(plan, k, &record, code).is_ok()));
+        letters.extend((0..plan.m as u32).find(|&code| record::feed(plan, k, &record, code).is_ok()));
         letters
-            .extend((0..plan.m as u8).find(|&code| matches!(record::feed(plan, k, &record, code), Err(refusal) if refusal.number == 14)));
+            .extend((0..plan.m as u32).find(|&code| matches!(record::feed(plan, k, &record, code), Err(refusal) if refusal.number == 14)));
     }
     for letter in letters {
         cases.push(Case::Feed { table: table.to_vec(), rec: rec.clone(), letter, position: lend(r, 1) });
@@ -151,8 +151,16 @@ pub fn batch(r: &mut Random) -> Vec<Case> {
             _ => 2 * k + r.below(120),
         };
         let legs = random::legs(r, &plan, length);
+        let legs = random::offered(r, &legs, m);
         cases.push(Case::Session { plan: bytes.clone(), legs, extra: r.below(4) });
     }
+    let refusal = r.pick(&[
+        r.clone().below(20) as u32,
+        256 + r.clone().below(20) as u32,
+        65_536 + r.clone().below(20) as u32,
+        r.clone().next() as u32,
+    ]);
+    cases.push(Case::Group { refusal });
     let bound = n * (n - 1) / 2;
     let other = match r.below(3) {
         0 => 0,

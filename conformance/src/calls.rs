@@ -19,6 +19,7 @@ pub trait Calls: Sync {
     fn walk(&self, table: &[u64], word: &[u8], sets: &mut [u64], length: &mut [u64]) -> u32;
     fn judge(&self, table: &[u64], state: u32, letter: u32, word: &[u8], sets: &mut [u64]) -> u32;
     fn open(&self, table: &[u64], rec: &mut [u8], position: &mut [u32]) -> u32;
-    fn feed(&self, table: &[u64], rec: &mut [u8], letter: u8, position: &mut [u32]) -> u32;
+    fn feed(&self, table: &[u64], rec: &mut [u8], letter: u32, position: &mut [u32]) -> u32;
     fn finish(&self, table: &[u64], rec: &[u8], sets: &mut [u64]) -> u32;
+    fn group(&self, refusal: u32) -> u32;
 }

@@ -58,7 +58,7 @@ pub enum Case {
     Feed {
         table: Vec<u64>,
         rec: Vec<u8>,
-        letter: u8,
+        letter: u32,
         position: usize,
     },
     Finish {
@@ -69,8 +69,11 @@ pub enum Case {
     /// Demand 3: prepare, open, every leg, ending and the whole walk, held to the plain walk; each buffer `extra` longer than needed.
     Session {
         plan: Vec<u8>,
-        legs: Vec<u8>,
+        legs: Vec<u32>,
         extra: usize,
+    },
+    Group {
+        refusal: u32,
     },
 }
 
@@ -199,6 +202,7 @@ fn act(case: &Case, calls: &dyn Calls) -> Outcome {
             let reply = calls.finish(&table, &rec, &mut sets);
             Outcome { reply, memory: vec![Sets("table", table), Bytes("record", rec), Sets("sets", sets)] }
         }
+        Case::Group { refusal } => Outcome { reply: calls.group(*refusal), memory: vec![] },
         Case::Session { .. } => unreachable!("a session is more than one call"),
     }
 }
@@ -216,6 +220,7 @@ fn call_name(case: &Case) -> &'static str {
         Case::Feed { .. } => "feed",
         Case::Finish { .. } => "finish",
         Case::Session { .. } => "session",
+        Case::Group { .. } => "group",
     }
 }
 
@@ -271,6 +276,7 @@ fn class(case: &Case, outcome: &Outcome, why: &str) -> String {
             count if count == table[2] => "k positions",
             _ => "fewer than k positions",
         },
+        Case::Group { .. } => ["nobody", "author", "caller", "logger"][outcome.reply as usize],
         Case::Session { .. } => unreachable!("a session is more than one call"),
     };
     format!("{name} {kind}")
@@ -346,7 +352,7 @@ fn reply_number(reply: Reply) -> u32 {
 }
 
 /// Demand 3 on one plan and one list of legs. A plan that is refused gives an empty session.
-fn session(bytes: &[u8], legs: &[u8], extra: usize, subject: &dyn Calls) -> Result<Vec<String>, String> {
+fn session(bytes: &[u8], legs: &[u32], extra: usize, subject: &dyn Calls) -> Result<Vec<String>, String> {
     let Ok(Read { plan, .. }) = read(bytes) else { return Ok(vec![]) };
     let Some(k) = look_ahead(&plan) else { return Ok(vec![]) };
     let mut met = Vec::new();
@@ -400,19 +406,22 @@ fn session(bytes: &[u8], legs: &[u8], extra: usize, subject: &dyn Calls) -> Resu
         return Err(format!("opening gave {}, position {}, record {}, expected {opening:?}", show_reply(reply), position[0], hex(&rec)));
     }
     // legs
-    let (mut bookings, mut refusals) = (0, [0; 16]);
+    let (mut bookings, mut refusals, mut wide) = (0, [0; 16], 0);
     for (i, (&leg, &want)) in legs.iter().zip(&replies).enumerate() {
         let before = rec.clone();
         let reply = subject.feed(&table, &mut rec, leg, &mut position);
         match want {
-            Reply::Refused(number) => refusals[number as usize] += 1,
+            Reply::Refused(number) => {
+                refusals[number as usize] += 1;
+                wide += (number == 12 && leg > 255) as u32;
+            }
             Reply::Booked { .. } => (so_far, bookings) = (so_far + 1, bookings + 1),
             Reply::Nothing => so_far += 1,
         }
         let last = note(want, so_far, &mut expected);
         if reply != reply_number(want) || position[0] != last || rec[..8 + k] != expected || rec[8 + k..] != rest {
             return Err(format!(
-                "leg {i} (code {leg:02x}) on record {}\n  gave {}, position {}, record {}\n  expected {want:?}, record {}",
+                "leg {i} (code {leg:x}) on record {}\n  gave {}, position {}, record {}\n  expected {want:?}, record {}",
                 hex(&before),
                 show_reply(reply),
                 position[0],
@@ -449,6 +458,9 @@ fn session(bytes: &[u8], legs: &[u8], extra: usize, subject: &dyn Calls) -> Resu
             met.push(format!("session with refused legs {number}"));
         }
     }
+    if wide > 0 {
+        met.push("session with refused legs above 255".to_string());
+    }
     if taken.len() > MOST_LEGS as usize - 1 {
         met.push("session of 1,000,000 legs".to_string());
     }
@@ -475,7 +487,7 @@ pub fn show(case: &Case) -> String {
         }
         Case::Open { table, rec, position } => format!("open: table {}, lent: record {rec}, position {position}", hex(table)),
         Case::Feed { table, rec, letter, position } => {
-            format!("feed: table {}, record {}, letter {letter:02x}, lent: position {position}", hex(table), hex(rec))
+            format!("feed: table {}, record {}, letter {letter:x}, lent: position {position}", hex(table), hex(rec))
         }
         Case::Finish { table, rec, sets } => format!("finish: table {}, record {}, lent: sets {sets}", hex(table), hex(rec)),
         Case::Session { plan, legs, extra } => {
@@ -485,5 +497,6 @@ pub fn show(case: &Case) -> String {
                 hex(legs)
             )
         }
+        Case::Group { refusal } => format!("group: refusal {refusal:x}"),
     }
 }

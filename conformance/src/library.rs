@@ -57,11 +57,12 @@ extern "C" {
         table_len: usize,
         rec: *mut u8,
         rec_len: usize,
-        letter: u8,
+        letter: u32,
         position: *mut u32,
         position_len: usize,
     ) -> u32;
     fn gawherino_finish(table: *const u64, table_len: usize, rec: *const u8, rec_len: usize, sets: *mut u64, sets_len: usize) -> u32;
+    fn gawherino_group(refusal: u32) -> u32;
 }
 
 /// The library. "A pointer that goes with the length 0 may be anything": `null_if_empty` lends null there, and else Rust's own.
@@ -131,7 +132,7 @@ impl Calls for Library {
         unsafe { gawherino_open(self.at(table), table.len(), rec_at, rec.len(), position_at, position.len()) }
     }
 
-    fn feed(&self, table: &[u64], rec: &mut [u8], letter: u8, position: &mut [u32]) -> u32 {
+    fn feed(&self, table: &[u64], rec: &mut [u8], letter: u32, position: &mut [u32]) -> u32 {
         let (rec_at, position_at) = (self.at_mut(rec), self.at_mut(position));
         unsafe { gawherino_feed(self.at(table), table.len(), rec_at, rec.len(), letter, position_at, position.len()) }
     }
@@ -139,5 +140,9 @@ impl Calls for Library {
     fn finish(&self, table: &[u64], rec: &[u8], sets: &mut [u64]) -> u32 {
         let sets_at = self.at_mut(sets);
         unsafe { gawherino_finish(self.at(table), table.len(), self.at(rec), rec.len(), sets_at, sets.len()) }
+    }
+
+    fn group(&self, refusal: u32) -> u32 {
+        unsafe { gawherino_group(refusal) }
     }
 }

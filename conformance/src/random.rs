@@ -445,6 +445,25 @@ pub fn legs(r: &mut Random, plan: &Plan, length: usize) -> Vec<u8> {
     legs
 }
 
+/// A code that is none of the plan's: from m on, and those of which a part of the bits would be one.
+pub fn stray_code(r: &mut Random, m: usize) -> u32 {
+    let low = r.below(m) as u32;
+    r.pick(&[m as u32, 64, 255, 256, 257, 256 + low, 65_535, 65_536, 65_536 + low, 1 << 24, (1 << 31) + low, u32::MAX])
+}
+
+/// The legs as a caller offers them, 32-bit numbers, with codes that are none of the plan's among them.
+pub fn offered(r: &mut Random, legs: &[u8], m: usize) -> Vec<u32> {
+    let strays = r.pick(&[0, 1, 4]);
+    let mut offered = Vec::new();
+    for &leg in legs {
+        if r.percent(strays) {
+            offered.push(stray_code(r, m));
+        }
+        offered.push(leg as u32);
+    }
+    offered
+}
+
 /// A table that preparing need not have made: any sets below n, any k up to its bound.
 pub fn table(r: &mut Random) -> Vec<u64> {
     let (n, m) = (stakes(r), codes(r));

@@ -88,12 +88,18 @@ fn smaller(case: &Case) -> Vec<Case> {
     };
     // legs, words and letters
     match case {
-        Case::Session { legs: list, .. } | Case::Walk { word: list, .. } | Case::Judge { word: list, .. } => {
+        Case::Session { legs: list, .. } => {
             for shorter in without_a_piece(list) {
                 push(&|other| {
                     if let Case::Session { legs, .. } = other {
                         *legs = shorter.clone();
                     }
+                });
+            }
+        }
+        Case::Walk { word: list, .. } | Case::Judge { word: list, .. } => {
+            for shorter in without_a_piece(list) {
+                push(&|other| {
                     if let Case::Walk { word, .. } | Case::Judge { word, .. } = other {
                         *word = shorter.clone();
                     }
@@ -121,6 +127,7 @@ fn smaller(case: &Case) -> Vec<Case> {
                 });
             }
         }
+        Case::Group { .. } => {}
         Case::Walk { table, .. }
         | Case::Judge { table, .. }
         | Case::Open { table, .. }

@@ -124,8 +124,10 @@ fn classes() -> Vec<String> {
     add("feed", &[&table, &["9: record", "9: position"], &record, &["11: a leg beyond 1,000,000", "12: the leg not below m"]]);
     add("feed", &[&["13: the leg can't be walked", "14: two or more stakes are possible", "booked", "none booked"]]);
     add("finish", &[&table, &["9: record", "9: sets"], &record]);
+    add("feed", &[&["12: the leg above 255"]]);
     add("finish", &[&["no position (k 0)", "fewer than k positions", "k positions"]]);
-    add("session", &[&counts, &["13 at opening", "with refused legs 12", "with refused legs 13"]]);
+    add("session", &[&counts, &["13 at opening", "with refused legs 12", "with refused legs 13", "with refused legs above 255"]]);
+    add("group", &[&["author", "caller", "logger", "nobody"]]);
     add("session with bookings,", &[&counts]);
     all
 }

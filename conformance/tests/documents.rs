@@ -128,6 +128,38 @@ fn plan_a_as_the_document_writes_it() {
     }
 }
 
+/// "Who can cause which refusal", as document 01 lists them: author 1, caller 2, logger 3; every other number is nobody's.
+#[test]
+fn groups_of_refusals() {
+    let listed = [0, 1, 1, 1, 1, 1, 1, 1, 2, 2, 2, 3, 3, 3, 2, 1];
+    let large = [1 << 24, (1 << 24) + 1, (1 << 31) + 8, u32::MAX - 65_535, u32::MAX - 1, u32::MAX];
+    for calls in common::everyone() {
+        for refusal in (0..=70_000).chain(large) {
+            let expected = listed.get(refusal as usize).copied().unwrap_or(0);
+            assert_eq!(calls.group(refusal), expected, "{refusal} by {}", calls.name());
+        }
+    }
+}
+
+/// "12: a code .. in a call not below the plan's": a code is any 32-bit number, also where a part of its bits would be one of the plan's.
+#[test]
+fn codes_of_32_bits() {
+    let plan = draft(3, 32, &[0], &[(0, 0, 1), (1, 31, 2), (2, 1, 2)]);
+    for calls in common::everyone() {
+        let (_, table) = prepared(calls.as_ref(), &plan).expect("k 0");
+        let (mut rec, mut position) = ([0; 8], [77]);
+        assert_eq!(calls.open(&table, &mut rec, &mut position), 0);
+        for (code, reply) in [(0, 1), (31, 2), (1, 2)] {
+            let before = (rec, position);
+            for stray in [32, 33, 255, 256, 256 + code, 65_535, 65_536, 65_536 + code, (1 << 31) + code, u32::MAX] {
+                assert_eq!(calls.feed(&table, &mut rec, stray, &mut position), REFUSED + 12, "{stray} by {}", calls.name());
+                assert_eq!((rec, position), before);
+            }
+            assert_eq!(calls.feed(&table, &mut rec, code, &mut position), reply);
+        }
+    }
+}
+
 #[test]
 fn traps_of_document_01() {
     // a loop that exchanges the two stakes still means 15
@@ -161,6 +193,26 @@ fn examples_1_and_2() {
         let (_, table) = prepared(calls, &b).expect("k 1");
         assert_eq!(judged(calls, &table, 0, 0, &[]), (false, set(&[1, 2]), set(&[1, 2])));
         assert_eq!(judged(calls, &table, 0, 0, &[0]), (false, 0, 0));
+    }
+}
+
+/// Example 1 with 2, Fig. 1 (c): p and q as 0 and 1, one code a; the fork <p, a> has the set {p, q}, and from q every a^k can be walked.
+/// The text leaves open where q's a leads: to q, to p or to both. Whichever it is, what it says of T = {p, q} must hold. There is no k, so
+/// preparing makes no table; a verdict needs none of its making.
+#[test]
+fn examples_1_and_2_without_look_ahead() {
+    let readings: [(&[Line], u64); 3] = [(&[(1, 0, 1)], 0b10), (&[(1, 0, 0)], 0b01), (&[(1, 0, 0), (1, 0, 1)], 0b11)];
+    for calls in common::everyone() {
+        let calls = calls.as_ref();
+        for (from_q, led_to) in readings {
+            let c = draft(2, 1, &[0], &[&[(0, 0, 0), (0, 0, 1)], from_q].concat());
+            counted(calls, &c, Err(15), "Fig. 1 (c)");
+            // every word in a* is a nonselector of p and of q; there are no selectors and no maximal nonselectors
+            let table = [2, 1, 0, set(&[0]), set(&[0, 1]), led_to];
+            for length in 0..20 {
+                assert_eq!(judged(calls, &table, 0, 0, &vec![0; length]), (false, set(&[0, 1]), 0), "a^{length}");
+            }
+        }
     }
 }
 
@@ -219,7 +271,7 @@ fn examples_7_8_and_10() {
         let (mut rec, mut position) = (vec![0; 10], [0]);
         assert_eq!(calls.open(&table, &mut rec, &mut position), NOTHING);
         for (i, &code) in word("aaababaab").iter().enumerate() {
-            let reply = calls.feed(&table, &mut rec, code, &mut position);
+            let reply = calls.feed(&table, &mut rec, code as u32, &mut position);
             if i == 0 {
                 assert_eq!(reply, NOTHING);
             } else {
@@ -361,7 +413,7 @@ fn a_million_legs() {
         let plans = [(plan_a(), 1), (circle.clone(), 1), (odometer(2, 3), 4)];
         for (plan, codes) in plans.into_iter().take(if i == 2 { 3 } else { 1 }) {
             let mut r = Random::new(common::seed(), 1_000_000);
-            let mut legs: Vec<u8> = Vec::new();
+            let mut legs: Vec<u32> = Vec::new();
             let mut at = 0;
             // a walk that never leaves the plan: code 0 everywhere, and for the counters 0 or 2 on the x side
             for _ in 0..1_000_000 {
@@ -369,10 +421,10 @@ fn a_million_legs() {
                 at += 1;
                 if at % 100_000 == 99 {
                     // refused legs take no place
-                    legs.push(plan.m as u8);
+                    legs.push(plan.m as u32);
                 }
             }
-            legs.extend([0, 255, 0]);
+            legs.extend([0, 255, u32::MAX, 0]);
             let case = Case::Session { plan: plan.bytes(), legs, extra: 2 };
             match compare(&case, calls.as_ref()) {
                 Ok(met) => {

@@ -227,7 +227,7 @@ fn main() {
             let (mut rec, mut position, mut sum) = (vec![0; 8 + k], [0], 0u32);
             calls.open(&table, &mut rec, &mut position);
             for &code in &word {
-                let reply = calls.feed(black_box(&table), &mut rec, code, &mut position);
+                let reply = calls.feed(black_box(&table), &mut rec, code as u32, &mut position);
                 debug_assert!(reply < REFUSED);
                 sum = sum.wrapping_mul(31).wrapping_add(reply);
             }

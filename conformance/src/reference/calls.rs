@@ -5,7 +5,7 @@ use super::plan::{read, Plan, Read};
 use super::record::{feed, finish, open, Booking, Record};
 use super::table::{plan_of, table_of};
 use super::walk::{verdict, whole_walk};
-use super::{claim, refuse, to_number, Refusal};
+use super::{claim, group, refuse, to_number, Refusal};
 use crate::calls::{Calls, NOTHING, REFUSED};
 use std::cell::Cell;
 
@@ -137,7 +137,7 @@ impl Calls for Reference {
         }))
     }
 
-    fn feed(&self, table: &[u64], rec: &mut [u8], letter: u8, position: &mut [u32]) -> u32 {
+    fn feed(&self, table: &[u64], rec: &mut [u8], letter: u32, position: &mut [u32]) -> u32 {
         answer(plan_of(table).and_then(|(plan, k)| {
             lent(rec.len(), 8 + k, "record")?;
             lent(position.len(), 1, "position")?;
@@ -157,5 +157,9 @@ impl Calls for Reference {
             }
             Ok(open.len() as u32)
         }))
+    }
+
+    fn group(&self, refusal: u32) -> u32 {
+        answer(Ok(group(refusal)))
     }
 }

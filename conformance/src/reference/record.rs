@@ -90,17 +90,17 @@ pub fn open(plan: &Plan, k: usize) -> Result<(Booking, Record), Refusal> {
     Ok((Some((0, stake)), record))
 }
 
-pub fn feed(plan: &Plan, k: usize, record: &Record, code: u8) -> Result<(Booking, Record), Refusal> {
+pub fn feed(plan: &Plan, k: usize, record: &Record, code: u32) -> Result<(Booking, Record), Refusal> {
     let base = base(plan, k, record)?;
     if record.legs == 1_000_000 {
         return refuse(11, "a leg beyond 1,000,000");
     }
     if code as usize >= plan.m {
-        return refuse(12, "the leg not below m");
+        return refuse(12, if code > 255 { "the leg above 255" } else { "the leg not below m" });
     }
     // a new leg is read behind the held codes before its booking is worked out
     let mut word = record.held_codes().to_vec();
-    word.push(code);
+    word.push(code as u8);
     let sets = possible(plan, &base, &word);
     if size(&sets[0]) == 0 {
         return refuse(13, "the leg can't be walked");

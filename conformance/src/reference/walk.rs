@@ -110,7 +110,7 @@ pub enum Reply {
 }
 
 /// The plain walk of document 01 on a plan with starts, its k and the codes offered: what opening and each leg reply, and the codes taken.
-pub fn plain_walk(plan: &Plan, k: usize, offered: &[u8]) -> (Reply, Vec<Reply>, Vec<u8>) {
+pub fn plain_walk(plan: &Plan, k: usize, offered: &[u32]) -> (Reply, Vec<Reply>, Vec<u8>) {
     let opening = if k == 0 { Reply::Booked { position: 0, stake: members(&plan.starts)[0] } } else { Reply::Nothing };
     let mut taken: Vec<u8> = Vec::new();
     let mut reached = plan.starts.clone();
@@ -126,6 +126,7 @@ pub fn plain_walk(plan: &Plan, k: usize, offered: &[u8]) -> (Reply, Vec<Reply>, 
             continue;
         }
         // no start can walk the codes taken and then this one
+        let code = code as u8;
         let further = step(plan, &reached, code);
         if size(&further) == 0 {
             replies.push(Reply::Refused(13));

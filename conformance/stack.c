@@ -1,0 +1,451 @@
+/* How many bytes of stack each call takes: it is run on a stack of its own that was painted before, and the lowest changed place is looked
+ * for. What the caller itself has on that stack is measured with a call of the same kind that does nothing, and taken off; the return
+ * address counts. For each call a line: its name, the greatest figure, the least of what the plans had for their greatest, how many plans
+ * it was called on, and what the header says.
+ * The exit status is 1 if a call took more than the header says. stack.sh builds and runs it. */
+#define _XOPEN_SOURCE 700
+
+#include "gawherino.h"
+
+#include <stdio.h>
+#include <stdlib.h>
+#include <string.h>
+#include <ucontext.h>
+
+enum { READ, PREPARE, LOOK_AHEAD, COUNT, CHECK, WALK, JUDGE, OPEN, FEED, FINISH, GROUP, CALLS };
+
+static const char *const names[CALLS] = {"gawherino_read", "gawherino_prepare", "gawherino_look_ahead", "gawherino_count",
+                                         "gawherino_check", "gawherino_walk", "gawherino_judge", "gawherino_open",
+                                         "gawherino_feed", "gawherino_finish", "gawherino_group"};
+static const size_t said[CALLS] = {GAWHERINO_STACK_READ, GAWHERINO_STACK_PREPARE, GAWHERINO_STACK_LOOK_AHEAD, GAWHERINO_STACK_COUNT,
+                                   GAWHERINO_STACK_CHECK, GAWHERINO_STACK_WALK, GAWHERINO_STACK_JUDGE, GAWHERINO_STACK_OPEN,
+                                   GAWHERINO_STACK_FEED, GAWHERINO_STACK_FINISH, GAWHERINO_STACK_GROUP};
+
+/* What is lent. */
+static uint8_t plan[65535];
+static size_t plan_len;
+static uint32_t counts[GAWHERINO_COUNTS];
+static uint64_t table[GAWHERINO_MAX_TABLE];
+static size_t table_len;
+static uint8_t letters[GAWHERINO_MAX_LETTERS];
+static size_t letters_len;
+static uint32_t evidence[GAWHERINO_EVIDENCE];
+static uint8_t word[5000];
+static size_t word_len;
+static uint64_t sets[5001];
+static uint64_t length[1];
+static uint8_t rec[GAWHERINO_MAX_RECORD];
+static uint32_t position[1];
+static uint32_t state, letter, answer;
+
+/* Each call, and beside it one of the same kind that does nothing. */
+static uint32_t no_read(const uint8_t *a, size_t b, uint32_t *c, size_t d)
+{
+    return (void)a, (void)b, (void)c, (void)d, 0;
+}
+static uint32_t no_prepare(const uint8_t *a, size_t b, uint64_t *c, size_t d, uint8_t *e, size_t f, uint32_t *g, size_t h)
+{
+    return (void)a, (void)b, (void)c, (void)d, (void)e, (void)f, (void)g, (void)h, 0;
+}
+static uint32_t no_look_ahead(const uint8_t *a, size_t b, uint8_t *c, size_t d, uint32_t *e, size_t f)
+{
+    return (void)a, (void)b, (void)c, (void)d, (void)e, (void)f, 0;
+}
+static uint32_t no_count(const uint8_t *a, size_t b)
+{
+    return (void)a, (void)b, 0;
+}
+static uint32_t no_check(const uint8_t *a, size_t b, const uint32_t *c, size_t d, const uint8_t *e, size_t f)
+{
+    return (void)a, (void)b, (void)c, (void)d, (void)e, (void)f, 0;
+}
+static uint32_t no_walk(const uint64_t *a, size_t b, const uint8_t *c, size_t d, uint64_t *e, size_t f, uint64_t *g, size_t h)
+{
+    return (void)a, (void)b, (void)c, (void)d, (void)e, (void)f, (void)g, (void)h, 0;
+}
+static uint32_t no_judge(const uint64_t *a, size_t b, uint32_t c, uint32_t d, const uint8_t *e, size_t f, uint64_t *g, size_t h)
+{
+    return (void)a, (void)b, (void)c, (void)d, (void)e, (void)f, (void)g, (void)h, 0;
+}
+static uint32_t no_open(const uint64_t *a, size_t b, uint8_t *c, size_t d, uint32_t *e, size_t f)
+{
+    return (void)a, (void)b, (void)c, (void)d, (void)e, (void)f, 0;
+}
+static uint32_t no_feed(const uint64_t *a, size_t b, uint8_t *c, size_t d, uint32_t e, uint32_t *f, size_t g)
+{
+    return (void)a, (void)b, (void)c, (void)d, (void)e, (void)f, (void)g, 0;
+}
+static uint32_t no_finish(const uint64_t *a, size_t b, const uint8_t *c, size_t d, uint64_t *e, size_t f)
+{
+    return (void)a, (void)b, (void)c, (void)d, (void)e, (void)f, 0;
+}
+static uint32_t no_group(uint32_t a)
+{
+    return (void)a, 0;
+}
+
+static volatile int real;
+
+#define CALL(name) (real ? gawherino_##name : no_##name)
+
+/* Runs one call on the painted stack. The pointer to it is volatile, so that no call is made part of its caller. */
+static int which;
+
+static void job(void)
+{
+    switch (which) {
+    case READ: {
+        uint32_t (*volatile call)(const uint8_t *, size_t, uint32_t *, size_t) = CALL(read);
+        answer = call(plan, plan_len, counts, GAWHERINO_COUNTS);
+        break;
+    }
+    case PREPARE: {
+        uint32_t (*volatile call)(const uint8_t *, size_t, uint64_t *, size_t, uint8_t *, size_t, uint32_t *, size_t) = CALL(prepare);
+        answer = call(plan, plan_len, table, table_len, letters, letters_len, evidence, GAWHERINO_EVIDENCE);
+        break;
+    }
+    case LOOK_AHEAD: {
+        uint32_t (*volatile call)(const uint8_t *, size_t, uint8_t *, size_t, uint32_t *, size_t) = CALL(look_ahead);
+        answer = call(plan, plan_len, letters, letters_len, evidence, GAWHERINO_EVIDENCE);
+        break;
+    }
+    case COUNT: {
+        uint32_t (*volatile call)(const uint8_t *, size_t) = CALL(count);
+        answer = call(plan, plan_len);
+        break;
+    }
+    case CHECK: {
+        uint32_t (*volatile call)(const uint8_t *, size_t, const uint32_t *, size_t, const uint8_t *, size_t) = CALL(check);
+        answer = call(plan, plan_len, evidence, GAWHERINO_EVIDENCE, letters, letters_len);
+        break;
+    }
+    case WALK: {
+        uint32_t (*volatile call)(const uint64_t *, size_t, const uint8_t *, size_t, uint64_t *, size_t, uint64_t *, size_t) = CALL(walk);
+        answer = call(table, table_len, word, word_len, sets, word_len + 1, length, 1);
+        break;
+    }
+    case JUDGE: {
+        uint32_t (*volatile call)(const uint64_t *, size_t, uint32_t, uint32_t, const uint8_t *, size_t, uint64_t *, size_t) = CALL(judge);
+        answer = call(table, table_len, state, letter, word, word_len, sets, 2);
+        break;
+    }
+    case OPEN: {
+        uint32_t (*volatile call)(const uint64_t *, size_t, uint8_t *, size_t, uint32_t *, size_t) = CALL(open);
+        answer = call(table, table_len, rec, GAWHERINO_MAX_RECORD, position, 1);
+        break;
+    }
+    case FEED: {
+        uint32_t (*volatile call)(const uint64_t *, size_t, uint8_t *, size_t, uint32_t, uint32_t *, size_t) = CALL(feed);
+        answer = call(table, table_len, rec, GAWHERINO_MAX_RECORD, letter, position, 1);
+        break;
+    }
+    case FINISH: {
+        uint32_t (*volatile call)(const uint64_t *, size_t, const uint8_t *, size_t, uint64_t *, size_t) = CALL(finish);
+        answer = call(table, table_len, rec, GAWHERINO_MAX_RECORD, sets, GAWHERINO_MAX_SETS);
+        break;
+    }
+    default: {
+        uint32_t (*volatile call)(uint32_t) = CALL(group);
+        answer = call(letter);
+        break;
+    }
+    }
+}
+
+/* The stack, painted with a number for each place, so that what is written is hardly ever what stood there. */
+#define PLACES (1u << 15) /* of 8 bytes: 256 KiB */
+static uint64_t stack[PLACES];
+static ucontext_t here, there;
+
+static uint64_t paint(size_t i)
+{
+    uint64_t z = (uint64_t)i * 0x9E3779B97F4A7C15u + 0xD1B54A32D192ED03u;
+    z = (z ^ (z >> 30)) * 0xBF58476D1CE4E5B9u;
+    return z ^ (z >> 27);
+}
+
+/* How far down the painted stack was written, in bytes from its top. */
+static size_t depth(void)
+{
+    size_t i;
+    for (i = 0; i < PLACES; i++)
+        stack[i] = paint(i);
+    getcontext(&there);
+    there.uc_stack.ss_sp = stack;
+    there.uc_stack.ss_size = sizeof stack;
+    there.uc_link = &here;
+    makecontext(&there, job, 0);
+    swapcontext(&here, &there);
+    for (i = 0; i < PLACES && stack[i] == paint(i); i++)
+        ;
+    if (i < 1024) {
+        fprintf(stderr, "stack: %s wrote all over the painted stack\n", names[which]);
+        exit(2);
+    }
+    return (PLACES - i) * 8;
+}
+
+/* What the call itself took: on this plan at most, and of the plans' figures the greatest and the least. */
+static size_t bare[CALLS], now[CALLS], greatest[CALLS], least[CALLS], plans[CALLS];
+
+static uint32_t measure(int call)
+{
+    size_t took;
+    which = call;
+    if (!bare[call]) {
+        real = 0;
+        bare[call] = depth() - 8; /* but for its return address */
+        real = 1;
+    }
+    took = depth() - bare[call];
+    if (took > now[call])
+        now[call] = took;
+    return answer;
+}
+
+static void end_of_plan(void)
+{
+    int call;
+    for (call = 0; call < CALLS; call++) {
+        if (now[call] == 0)
+            continue;
+        if (now[call] > greatest[call])
+            greatest[call] = now[call];
+        if (plans[call] == 0 || now[call] < least[call])
+            least[call] = now[call];
+        plans[call]++;
+        now[call] = 0;
+    }
+}
+
+/* Plans. */
+static uint32_t seed = 1;
+
+static uint32_t below(uint32_t end)
+{
+    seed = seed * 1664525u + 1013904223u;
+    return (seed >> 8) % end;
+}
+
+static void put16(size_t at, size_t value)
+{
+    plan[at] = (uint8_t)(value & 255);
+    plan[at + 1] = (uint8_t)(value >> 8);
+}
+
+static void begin(size_t n, size_t m, size_t p, const uint8_t *starts)
+{
+    memset(plan, 0, 16);
+    put16(0, 1);
+    put16(2, n);
+    put16(4, m);
+    put16(6, p);
+    put16(10, 16);
+    put16(12, 16 + p);
+    if (p > 0)
+        memcpy(plan + 16, starts, p);
+    plan_len = 16 + p;
+    put16(14, plan_len);
+}
+
+static void line(size_t from, size_t code, size_t to)
+{
+    plan[plan_len] = (uint8_t)from;
+    plan[plan_len + 1] = (uint8_t)code;
+    plan[plan_len + 2] = (uint8_t)to;
+    plan_len += 3;
+    put16(8, (size_t)(plan[8] + 256 * plan[9]) + 1);
+    put16(14, plan_len);
+}
+
+/* Random lines, each once; to higher stakes only if downhill, so that there is a look-ahead. */
+static uint8_t drawn[64][32][64];
+
+static void random_lines(size_t n, size_t m, size_t e, int downhill)
+{
+    memset(drawn, 0, sizeof drawn);
+    while (e > 0) {
+        size_t from = below((uint32_t)n), code = below((uint32_t)m), to = below((uint32_t)n);
+        if ((downhill && from >= to) || drawn[from][code][to])
+            continue;
+        drawn[from][code][to] = 1;
+        line(from, code, to);
+        e--;
+    }
+}
+
+/* Two counters that only together count to i * j (families.rs has them too): k is i * j. */
+static void counters(size_t i, size_t j)
+{
+    size_t a, b;
+    uint8_t starts[2];
+    starts[0] = 0;
+    starts[1] = (uint8_t)i;
+    begin(i + j, 4, 2, starts);
+    for (a = 0; a < i; a++) {
+        line(a, 0, a);
+        if (a + 1 < i)
+            line(a, 1, a + 1);
+        line(a, 2, 0);
+        line(a, 2, i);
+    }
+    for (b = 0; b < j; b++) {
+        if (b + 1 < j)
+            line(i + b, 0, i + b + 1);
+        else
+            line(i + b, 1, i);
+        line(i + b, 3, 0);
+        line(i + b, 3, i);
+    }
+}
+
+static void lettered(const char *text, size_t n, size_t m)
+{
+    uint8_t starts[8];
+    size_t p = 0;
+    while (*text && *text != ';')
+        starts[p++] = (uint8_t)(*text++ - '0');
+    begin(n, m, p, starts);
+    while (*text == ';') {
+        line((size_t)(text[1] - '0'), (size_t)(text[2] - '0'), (size_t)(text[3] - '0'));
+        text += 4;
+    }
+}
+
+/* Every call on one plan: reading, counting and preparing, refused ones too; a walk; claims. */
+static void on_this_plan(size_t legs)
+{
+    uint32_t n, k, i, j, refused;
+    uint8_t kept;
+    n = measure(READ);
+    if (n >= GAWHERINO_REFUSED)
+        n = 1;
+    table_len = GAWHERINO_MAX_TABLE;
+    letters_len = 0;
+    measure(PREPARE); /* 9 */
+    letters_len = GAWHERINO_MAX_LETTERS;
+    for (i = 0; i < 16; i++) { /* damaged plan bytes: one of 1 to 7, mostly */
+        size_t at = i < 8 ? 2 * i : 16 + below((uint32_t)(plan_len - 16 + 1));
+        kept = plan[at];
+        plan[at] = 255;
+        measure(READ);
+        measure(COUNT);
+        measure(LOOK_AHEAD);
+        measure(PREPARE);
+        measure(CHECK);
+        plan[at] = kept;
+    }
+    measure(COUNT);
+    measure(LOOK_AHEAD);
+    k = measure(PREPARE);
+    if (k == GAWHERINO_REFUSED + GAWHERINO_NO_LOOKAHEAD) {
+        if (measure(CHECK) != 1) {
+            fprintf(stderr, "stack: the evidence does not pass its check\n");
+            exit(2);
+        }
+        evidence[GAWHERINO_EVIDENCE_LOOP] = 0;
+        measure(CHECK);
+        return;
+    }
+    if (k >= GAWHERINO_REFUSED)
+        return;
+    evidence[GAWHERINO_EVIDENCE_STAKE] = GAWHERINO_STARTS;
+    evidence[GAWHERINO_EVIDENCE_CODE] = 0;
+    evidence[GAWHERINO_EVIDENCE_S] = 0;
+    evidence[GAWHERINO_EVIDENCE_T] = 1;
+    evidence[GAWHERINO_EVIDENCE_LEAD_IN] = 1;
+    evidence[GAWHERINO_EVIDENCE_LOOP] = 1;
+    letters[0] = letters[1] = 0;
+    measure(CHECK);
+    /* a walk: of codes in any order those that are taken, and all that are refused on the way; then the same as a whole walk */
+    measure(OPEN);
+    measure(FINISH);
+    word_len = 0;
+    for (i = 0; i < legs; i++) {
+        for (j = 0, refused = GAWHERINO_REFUSED; j < 3 * 32 && refused >= GAWHERINO_REFUSED; j++) {
+            letter = below((uint32_t)table[1] + (j == 0 ? 1 : 0));
+            refused = measure(FEED);
+        }
+        if (refused >= GAWHERINO_REFUSED)
+            break;
+        word[word_len++] = (uint8_t)letter;
+        if (i % 50 == 0 || i + 3 > legs)
+            measure(FINISH);
+    }
+    measure(FINISH);
+    measure(WALK);
+    word[word_len++] = 0;
+    measure(WALK);
+    word_len = word_len > 20 ? 20 : word_len;
+    for (i = 0; i < 40; i++) {
+        state = i == 0 ? GAWHERINO_STARTS : below(n + 1);
+        letter = i == 0 ? 0 : below((uint32_t)table[1]);
+        word_len = word_len > 0 && i % 3 == 0 ? word_len - 1 : word_len;
+        measure(JUDGE);
+    }
+    /* refused on the table and on the record */
+    rec[5] = 1;
+    letter = 0;
+    measure(FEED);
+    measure(FINISH);
+    table[0] = 0;
+    measure(OPEN);
+    measure(FEED);
+    measure(FINISH);
+    measure(WALK);
+    measure(JUDGE);
+}
+
+static void every_call(size_t legs)
+{
+    on_this_plan(legs);
+    end_of_plan();
+}
+
+int main(void)
+{
+    static const uint8_t starts[2] = {0, 1};
+    size_t i, most = 0;
+    int over = 0;
+
+    /* plans A to H */
+    lettered("0;001;101;102", 3, 1), every_call(20);
+    lettered("0;000;001;101", 2, 1), every_call(20);
+    lettered("01;002;102;213", 4, 2), every_call(20);
+    lettered("0;000;101;102;202", 3, 1), every_call(20);
+    lettered("", 1, 1), every_call(20);
+    lettered("01", 2, 1), every_call(20);
+    lettered("01;001;102;110;212", 3, 2), every_call(20);
+    lettered("01;002;102;213;313", 4, 2), every_call(20);
+    /* 64 stakes: with a look-ahead, dense and sparse; without one; deterministic; a long look-ahead */
+    begin(64, 32, 2, starts), random_lines(64, 32, 4096, 1), every_call(100);
+    begin(64, 4, 2, starts), random_lines(64, 4, 200, 1), every_call(100);
+    begin(64, 32, 2, starts), random_lines(64, 32, 4096, 0), every_call(100);
+    begin(64, 1, 1, starts), random_lines(64, 1, 4096, 0), every_call(100);
+    begin(64, 32, 1, starts);
+    for (i = 0; i < 64 * 32; i++)
+        line(i / 32, i % 32, below(64));
+    every_call(300);
+    counters(8, 9), every_call(300);
+    counters(32, 32), every_call(2200);
+    for (letter = 0; letter < 300; letter++)
+        measure(GROUP);
+    end_of_plan();
+
+    for (i = 0; i < CALLS; i++) {
+        printf("%s %lu %lu %lu %lu\n", names[i], (unsigned long)greatest[i], (unsigned long)least[i], (unsigned long)plans[i],
+               (unsigned long)said[i]);
+        if (greatest[i] > said[i]) {
+            fprintf(stderr, "stack: %s takes %lu bytes, and include/gawherino.h says %lu\n", names[i], (unsigned long)greatest[i],
+                    (unsigned long)said[i]);
+            over = 1;
+        }
+        if (said[i] > most)
+            most = said[i];
+    }
+    if (most != GAWHERINO_MAX_STACK) {
+        fprintf(stderr, "stack: GAWHERINO_MAX_STACK is not the greatest figure of the header, %lu\n", (unsigned long)most);
+        over = 1;
+    }
+    return over;
+}
