@@ -157,10 +157,11 @@ fn smaller(case: &Case) -> Vec<Case> {
     cases
 }
 
-/// The smallest failing case that is found in a few seconds, with what it shows.
+/// The smallest failing case that is found in a few seconds (GAWHERINO_SHRINK: in how many), with what it shows.
 pub fn smallest(case: &Case, subject: &dyn Calls, message: String) -> (Case, String) {
     let (mut case, mut message) = (case.clone(), message);
-    let end = Instant::now() + Duration::from_secs(10);
+    let seconds = std::env::var("GAWHERINO_SHRINK").ok().and_then(|text| text.parse().ok()).unwrap_or(10);
+    let end = Instant::now() + Duration::from_secs(seconds);
     'again: loop {
         for other in smaller(&case) {
             if Instant::now() > end {
