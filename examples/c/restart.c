@@ -1,8 +1,8 @@
 /* A walk that is kept across restarts and power cuts. A record has no checksum, and some half-written ones pass as another record; so it
  * is never written over its last good copy. There are two slots. Each save goes to the older one, with the next number and a checksum over
  * the whole slot; after a restart the newest slot whose checksum fits is taken. A cut in the middle of a save leaves that slot torn, which
- * the checksum shows, and the other one whole, a leg older. The slot's number also says how many answers were saved, so that the logger
- * knows from which leg on to give its codes again.
+ * the checksum shows, and the other one whole, a leg older. The slot's number also says how many legs were saved, so that the logger
+ * knows from which leg on to give its codes again. On a real device a save must have reached it before the next one begins.
  *
  * The storage here is an array, and a cut stops a save after any number of bytes. Every cut of every save is tried: each time the walk is
  * taken up again from the slots and must end with the bookings and the record of a walk without a cut. Then a record without slots is
@@ -27,7 +27,7 @@ static const uint32_t codes[LEGS] = {0, 1, 0, 0, 1, 1, 1, 1};
 static uint64_t table[GAWHERINO_MAX_TABLE];
 
 /* A slot: how many saves there were when it was written (4 bytes), the record's length (4 bytes), the record, a checksum (4 bytes). */
-enum { SLOT = 4 + 4 + GAWHERINO_MAX_RECORD + 4 };
+#define SLOT (4 + 4 + GAWHERINO_MAX_RECORD + 4)
 static uint8_t storage[2][SLOT];
 
 static int wrong = 0;

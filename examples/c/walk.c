@@ -89,8 +89,11 @@ int main(void)
 
     /* A plan that is cut short is refused, with 1; and without room for the counts the reader still says 1, else 9. */
     answer = gawherino_read(plan_a, sizeof plan_a - 1, counts, 3);
-    expect("a plan cut short", answer, GAWHERINO_REFUSED + 1);
-    printf("refused %u author\n", (unsigned)(answer - GAWHERINO_REFUSED));
+    expect("a plan cut short", answer, GAWHERINO_REFUSED + GAWHERINO_BAD_TOTAL);
+    expect("its refusal", GAWHERINO_REFUSAL(answer), GAWHERINO_BAD_TOTAL);
+    expect("its group", gawherino_group(GAWHERINO_REFUSAL(answer)), GAWHERINO_AUTHOR);
+    expect("a value is no refusal", GAWHERINO_IS_REFUSED(k) || GAWHERINO_REFUSAL(k), 0);
+    printf("refused %u author\n", (unsigned)GAWHERINO_REFUSAL(answer));
     expect("no room, cut short", gawherino_read(plan_a, sizeof plan_a - 1, counts, 2), GAWHERINO_REFUSED + 1);
     expect("no room", gawherino_read(plan_a, sizeof plan_a, counts, 2), GAWHERINO_REFUSED + 9);
 
