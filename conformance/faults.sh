@@ -9,7 +9,7 @@ cd "$(dirname "$0")" || exit 2
 room=$(mktemp -d) || exit 2
 trap 'rm -rf "$room"' EXIT
 export GAWHERINO_STATICLIB=${GAWHERINO_STATICLIB:-$(cd .. && pwd)/target/staticlib} GAWHERINO_SECONDS=1 GAWHERINO_SHRINK=0
-mkdir "$room/copy" && cp -R Cargo.toml Cargo.lock build.rs src tests "$room/copy" || exit 2
+mkdir "$room/copy" && cp -R Cargo.toml Cargo.lock build.rs src tests "$room/copy" && cp -R ../include "$room" || exit 2
 names=() kinds=() kind=calls
 
 # fault NAME FILE OLD NEW: OLD stands once in the file; in NEW the word FAULT is true if the fault is on

@@ -24,9 +24,9 @@
  * and all its elements must be there: nothing checks that pointer and length belong together. A null pointer goes with the length 0 only;
  * with the length 0 a pointer may be anything. No two slices that are lent to one call may overlap if one of them is written.
  *
- * STATE. No call keeps or shares anything beyond what it is lent: any thread may call at any time, and signal handlers too, as long as no
- * two calls at once are lent the same slice and one of them writes it. Nothing is allocated. Of the C library only memcpy, memmove and
- * memset are called. Each call takes a fixed stack, named below; with less it faults.
+ * STATE. No call keeps or shares anything beyond what it is lent, so any thread may call at any time, as long as no two calls at once are
+ * lent the same slice and one of them writes it. Nothing is allocated. Of the C library memcpy, memmove and memset are called, and nothing
+ * else. How much stack each call takes is named below; with too little of it a call faults.
  */
 #ifndef GAWHERINO_H
 #define GAWHERINO_H
@@ -62,23 +62,23 @@ static inline uint32_t gawherino_refusal(uint32_t answer)
 #define GAWHERINO_STARTS 255u
 
 /* Refusals by the plan's author. */
-#define GAWHERINO_BAD_TOTAL 1u      /* fewer than 16 bytes, or the total is not the byte count */
-#define GAWHERINO_BAD_EDITION 2u    /* the edition is not 1 */
-#define GAWHERINO_BAD_COUNT 3u      /* a count is out of its range */
-#define GAWHERINO_BAD_PART 4u       /* the starts or the lines begin before byte 16, end after the total, or overlap */
-#define GAWHERINO_BAD_START 5u      /* a start is not below n, or stands twice */
-#define GAWHERINO_BAD_LINE 6u       /* a line's stake is not below n, or its code not below m */
-#define GAWHERINO_LINE_TWICE 7u     /* a line stands twice */
-#define GAWHERINO_NO_LOOKAHEAD 15u  /* no k exists */
+#define GAWHERINO_BAD_TOTAL 1u       /* fewer than 16 bytes, or the total is not the byte count */
+#define GAWHERINO_BAD_EDITION 2u     /* the edition is not 1 */
+#define GAWHERINO_BAD_COUNT 3u       /* a count is out of its range */
+#define GAWHERINO_BAD_PART 4u        /* the starts or the lines begin before byte 16, end after the total, or overlap */
+#define GAWHERINO_BAD_START 5u       /* a start is not below n, or stands twice */
+#define GAWHERINO_BAD_LINE 6u        /* a line's stake is not below n, or its code not below m */
+#define GAWHERINO_LINE_TWICE 7u      /* a line stands twice */
+#define GAWHERINO_NO_LOOKAHEAD 15u   /* no k exists */
 /* By the caller. */
-#define GAWHERINO_BAD_TABLE 8u      /* the numbers are no prepared plan */
-#define GAWHERINO_SHORT_BUFFER 9u   /* a lent slice is too short */
-#define GAWHERINO_BAD_RECORD 10u    /* the bytes are no record of this table */
+#define GAWHERINO_BAD_TABLE 8u       /* the numbers are no prepared plan */
+#define GAWHERINO_SHORT_BUFFER 9u    /* a lent slice is too short */
+#define GAWHERINO_BAD_RECORD 10u     /* the bytes are no record of this table */
 #define GAWHERINO_SEVERAL_STAKES 14u /* a booking is due and two or more stakes are possible: preparing did not make this table */
 /* By the logger. */
-#define GAWHERINO_TOO_MANY_LEGS 11u /* 1,000,000 legs are taken */
-#define GAWHERINO_BAD_NUMBER 12u    /* a code or a stake in the call is not the plan's */
-#define GAWHERINO_NO_WAY 13u        /* no way on the plan fits the codes; at opening and for a whole walk: there are no starts */
+#define GAWHERINO_TOO_MANY_LEGS 11u  /* 1,000,000 legs are taken */
+#define GAWHERINO_BAD_NUMBER 12u     /* a code or a stake in the call is not the plan's */
+#define GAWHERINO_NO_WAY 13u         /* no way on the plan fits the codes; at opening and for a whole walk: there are no starts */
 
 /* Who can cause a refusal: what gawherino_group answers. */
 #define GAWHERINO_NOBODY 0u

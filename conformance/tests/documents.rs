@@ -141,6 +141,60 @@ fn groups_of_refusals() {
     }
 }
 
+/// The header's numbers: each refusal has one name, which stands under its group, and the sizes are those of 64 stakes and 32 codes.
+#[test]
+fn numbers_of_the_header() {
+    let header = std::fs::read_to_string(concat!(env!("CARGO_MANIFEST_DIR"), "/../include/gawherino.h")).expect("the header is there");
+    let defined = |line: &str| -> Option<(String, u32)> {
+        let mut words = line.strip_prefix("#define GAWHERINO_")?.split_whitespace();
+        Some((words.next()?.to_string(), words.next()?.trim_end_matches('u').parse().ok()?))
+    };
+    let (mut group, mut refusals) = (0, Vec::new());
+    for line in header.lines() {
+        group = match line {
+            "/* Refusals by the plan's author. */" => 1,
+            "/* By the caller. */" => 2,
+            "/* By the logger. */" => 3,
+            "" => 0,
+            _ => group,
+        };
+        if group > 0 {
+            if let Some((name, number)) = defined(line) {
+                assert_eq!(conformance::reference::group(number), group, "{name}");
+                refusals.push(number);
+            }
+        }
+    }
+    refusals.sort();
+    assert_eq!(refusals, (1..=15).collect::<Vec<u32>>());
+    let numbers: std::collections::BTreeMap<String, u32> = header.lines().filter_map(defined).collect();
+    let sizes = [
+        ("REFUSED", REFUSED),
+        ("NOTHING", NOTHING),
+        ("STARTS", STARTS),
+        ("AUTHOR", 1),
+        ("CALLER", 2),
+        ("LOGGER", 3),
+        ("NOBODY", 0),
+        ("MAX_STAKES", 64),
+        ("MAX_CODES", 32),
+        ("MAX_LINES", 4096),
+        ("MAX_PLAN", u16::MAX as u32),
+        ("MAX_LOOKAHEAD", 64 * 63 / 2),
+        ("MAX_TABLE", 4 + 64 * 32),
+        ("MAX_RECORD", 8 + 64 * 63 / 2),
+        ("MAX_LETTERS", 64 * 64),
+        ("MAX_SETS", 64 * 63 / 2),
+        ("MAX_LEGS", 1_000_000),
+        ("COUNTS", 3),
+        ("EVIDENCE", 6),
+        ("VERDICT", 2),
+    ];
+    for (name, number) in sizes {
+        assert_eq!(numbers.get(name), Some(&number), "GAWHERINO_{name}");
+    }
+}
+
 /// "12: a code .. in a call not below the plan's": a code is any 32-bit number, also where a part of its bits would be one of the plan's.
 #[test]
 fn codes_of_32_bits() {
