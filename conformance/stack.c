@@ -312,8 +312,11 @@ static void lettered(const char *text, size_t n, size_t m)
     }
 }
 
-/* Every call on one plan: reading, counting and preparing, refused ones too; a walk; claims. */
-static void on_this_plan(size_t legs)
+#define NONE (GAWHERINO_REFUSED + GAWHERINO_NO_LOOKAHEAD)
+#define SOME 65535u /* some look-ahead */
+
+/* Every call on one plan with this look-ahead: reading, counting and preparing, refused ones too; a walk; claims. */
+static void on_this_plan(uint32_t expected, size_t legs)
 {
     uint32_t n, k, i, j, refused;
     uint8_t kept;
@@ -338,7 +341,11 @@ static void on_this_plan(size_t legs)
     measure(COUNT);
     measure(LOOK_AHEAD);
     k = measure(PREPARE);
-    if (k == GAWHERINO_REFUSED + GAWHERINO_NO_LOOKAHEAD) {
+    if (expected == SOME ? k >= GAWHERINO_REFUSED : k != expected) {
+        fprintf(stderr, "stack: a plan has %lu for its look-ahead\n", (unsigned long)k);
+        exit(2);
+    }
+    if (k == NONE) {
         if (measure(CHECK) != 1) {
             fprintf(stderr, "stack: the evidence does not pass its check\n");
             exit(2);
@@ -347,8 +354,6 @@ static void on_this_plan(size_t legs)
         measure(CHECK);
         return;
     }
-    if (k >= GAWHERINO_REFUSED)
-        return;
     evidence[GAWHERINO_EVIDENCE_STAKE] = GAWHERINO_STARTS;
     evidence[GAWHERINO_EVIDENCE_CODE] = 0;
     evidence[GAWHERINO_EVIDENCE_S] = 0;
@@ -396,9 +401,9 @@ static void on_this_plan(size_t legs)
     measure(JUDGE);
 }
 
-static void every_call(size_t legs)
+static void every_call(uint32_t expected, size_t legs)
 {
-    on_this_plan(legs);
+    on_this_plan(expected, legs);
     end_of_plan();
 }
 
@@ -409,25 +414,25 @@ int main(void)
     int over = 0;
 
     /* plans A to H */
-    lettered("0;001;101;102", 3, 1), every_call(20);
-    lettered("0;000;001;101", 2, 1), every_call(20);
-    lettered("01;002;102;213", 4, 2), every_call(20);
-    lettered("0;000;101;102;202", 3, 1), every_call(20);
-    lettered("", 1, 1), every_call(20);
-    lettered("01", 2, 1), every_call(20);
-    lettered("01;001;102;110;212", 3, 2), every_call(20);
-    lettered("01;002;102;213;313", 4, 2), every_call(20);
+    lettered("0;001;101;102", 3, 1), every_call(1, 20);
+    lettered("0;000;001;101", 2, 1), every_call(NONE, 20);
+    lettered("01;002;102;213", 4, 2), every_call(3, 20);
+    lettered("0;000;101;102;202", 3, 1), every_call(NONE, 20);
+    lettered("", 1, 1), every_call(0, 20);
+    lettered("01", 2, 1), every_call(1, 20);
+    lettered("01;001;102;110;212", 3, 2), every_call(3, 20);
+    lettered("01;002;102;213;313", 4, 2), every_call(NONE, 20);
     /* 64 stakes: with a look-ahead, dense and sparse; without one; deterministic; a long look-ahead */
-    begin(64, 32, 2, starts), random_lines(64, 32, 4096, 1), every_call(100);
-    begin(64, 4, 2, starts), random_lines(64, 4, 200, 1), every_call(100);
-    begin(64, 32, 2, starts), random_lines(64, 32, 4096, 0), every_call(100);
-    begin(64, 1, 1, starts), random_lines(64, 1, 4096, 0), every_call(100);
+    begin(64, 32, 2, starts), random_lines(64, 32, 4096, 1), every_call(SOME, 100);
+    begin(64, 4, 2, starts), random_lines(64, 4, 200, 1), every_call(SOME, 100);
+    begin(64, 32, 2, starts), random_lines(64, 32, 4096, 0), every_call(NONE, 100);
+    begin(64, 1, 1, starts), random_lines(64, 1, 4096, 0), every_call(NONE, 100);
     begin(64, 32, 1, starts);
     for (i = 0; i < 64 * 32; i++)
         line(i / 32, i % 32, below(64));
-    every_call(300);
-    counters(8, 9), every_call(300);
-    counters(32, 32), every_call(2200);
+    every_call(0, 300);
+    counters(8, 9), every_call(72, 300);
+    counters(32, 32), every_call(1024, 2200);
     for (letter = 0; letter < 300; letter++)
         measure(GROUP);
     end_of_plan();

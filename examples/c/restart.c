@@ -101,7 +101,7 @@ static uint32_t load(uint8_t *record)
 static uint8_t bookings[LEGS + 1];
 
 /* Walks on from what is stored to the last leg, saving after opening and after each leg. The power is cut in save number cut_save, after
- * cut bytes. Answers how many legs the record has, or -1 after a cut. */
+ * cut bytes. Answers how many legs the record has, or -1 after a cut or a refusal. */
 static int walk_on(uint8_t *record, uint32_t length, uint32_t cut_save, size_t cut)
 {
     uint32_t position[1], stake, saves = load(record);
