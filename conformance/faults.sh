@@ -80,8 +80,8 @@ run() {
     fi
 }
 
-at_once=$(nproc 2>/dev/null || echo 1) going=0 tried=0 missed=0
-run 0 all >"$room/said.0" 2>&1
+at_once=$(nproc 2>/dev/null || echo 1) going=1 tried=0 missed=0
+run 0 all >"$room/said.0" 2>&1 &
 for i in "${!names[@]}"; do
     case ${names[i]} in *"$only"*) ;; *) continue ;; esac
     [ "$going" -lt "$at_once" ] || { wait -n; going=$((going - 1)); }
