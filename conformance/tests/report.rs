@@ -1,24 +1,16 @@
 //! The report program (GAWHERINO_REPORT, else ../target/bin/report): what it writes on standard output against the reference's report.
+//! How it reads and writes is tested in streaming.rs.
 
 mod common;
 
-use conformance::families::{draft, odometer, Draft};
+use common::program::{plan_a, program, ring, with_legs, SAMPLE};
+use conformance::families::{draft, odometer};
 use conformance::random::{self, Random};
 use conformance::reference::plan::read;
 use conformance::reference::report::report;
 use std::io::Write;
-use std::path::PathBuf;
 use std::process::{Command, Stdio};
 use std::time::{Duration, Instant};
-
-fn program() -> PathBuf {
-    let path = match std::env::var_os("GAWHERINO_REPORT") {
-        Some(path) => PathBuf::from(path),
-        None => PathBuf::from(env!("CARGO_MANIFEST_DIR")).join("../target/bin/report"),
-    };
-    assert!(path.is_file(), "there is no {}: run `rt check report` in the repository first, or set GAWHERINO_REPORT", path.display());
-    path
-}
 
 fn written(input: &[u8]) -> String {
     let mut child = Command::new(program())
@@ -72,16 +64,6 @@ fn agree(input: &[u8], origin: &str) {
     );
 }
 
-fn with_legs(plan: &Draft, legs: &[u8]) -> Vec<u8> {
-    [plan.bytes().as_slice(), legs].concat()
-}
-
-fn plan_a() -> Draft {
-    draft(3, 1, &[0], &[(0, 0, 1), (1, 0, 1), (1, 0, 2)])
-}
-
-const SAMPLE: &str = "stakes 3 codes 1 starts 1 lines 3\nlook-ahead 1\nat 0 stake 0\nat 1 stake 1\nat 2 stake 1\nopen 3 stakes 1 2\n";
-
 #[test]
 fn the_reference_writes_the_sample() {
     assert_eq!(report(&with_legs(&plan_a(), &[0, 0, 0])), SAMPLE);
@@ -133,6 +115,31 @@ fn what_document_01_says_of_refusals() {
     let text = "stakes 2 codes 1 starts 1 lines 1\nlook-ahead 0\nat 0 stake 0\nat 1 stake 1\nrefused 13 logger\n";
     assert_eq!(written(&with_legs(&line, &[0, 0, 0])), text);
     assert_eq!(report(&with_legs(&line, &[0, 0, 0])), text);
+}
+
+/// A refused leg in every part of an input, and at the borders of the parts that the program reads.
+#[test]
+fn a_refused_leg_at_every_border() {
+    let places = [0, 1, 2, 3, 15, 16, 17, 4093, 4094, 4095, 4096, 4097, 4098, 8190, 8191, 8192, 8193, 12287, 12288, 12289];
+    for place in places {
+        for later in [0, 1, 4095, 4096, 4097, 4098, 9000] {
+            for (plan, leg) in [(plan_a(), 9), (ring(), 1), (ring(), 2), (ring(), 255)] {
+                let mut legs = vec![0; place];
+                legs.push(leg);
+                legs.resize(place + 1 + later, 0);
+                agree(&with_legs(&plan, &legs), &format!("leg {leg} at {place}, then {later} more"));
+            }
+        }
+    }
+    // two of them: the second is not looked at
+    for (first, second) in [(9, 1), (1, 9), (1, 1), (2, 200)] {
+        agree(&with_legs(&ring(), &[0, 0, first, 0, second, 0]), "two refused legs");
+    }
+    // plan A, a refused leg and 4,098 sound ones: the walk ends at the first
+    let mut legs = vec![9];
+    legs.resize(4099, 0);
+    let text = "stakes 3 codes 1 starts 1 lines 3\nlook-ahead 1\nrefused 12 logger\nopen 0 stakes 0\n";
+    assert_eq!(written(&with_legs(&plan_a(), &legs)), text);
 }
 
 #[test]

@@ -1,6 +1,8 @@
 //! What the tests share: who is compared with the reference, and the settings by environment variable.
 #![allow(dead_code)]
 
+pub mod program;
+
 use conformance::calls::Calls;
 use conformance::plain::Plain;
 use conformance::reference::calls::Reference;

@@ -4,4 +4,6 @@ pub mod Feeding
 pub mod Finishing
 pub mod Agreeing
 pub mod Beginning
+pub mod Stepping
+pub mod Running
 pub mod Theorems

@@ -77,6 +77,12 @@ FeedsPart table bytes letters (Ended r) left old out =
     × Laid (FedText table bytes letters) old 0 r out (λ rest. openOn table left)
 FeedsPart table bytes letters Short left old out = (length old < letterWidth * length letters) × (left ≡ bytes) × (out ≡ old)
 
+-- How many bytes a call printed.
+abbrev pub printedOf : Printed → ℕ
+printedOf (Going r) = r
+printedOf (Ended r) = r
+printedOf Short = 0
+
 -- Ending: all open lines; or fewer bytes are lent than they may take, and nothing is done.
 abbrev pub Finishes : List ℕ → List ℕ → Printed → List ℕ → List ℕ → Type 0
 Finishes table bytes (Going r) old out = ⊥

@@ -1,4 +1,5 @@
 pub mod Lines
 pub mod Report
 pub mod Calls
+pub mod Steps
 pub mod Theorems

@@ -13,13 +13,14 @@ ghost use Rattle.predictor.specs.Calls.{openedOn};
 ghost use Rattle.predictor.specs.Parts.{isRefusal};
 ghost use Rattle.text.specs.Lines.{Appended};
 ghost use Rattle.text.specs.Report.{totalOf, noPlan, replyText, openLines, AfterLookahead, AfterCounts};
-ghost use Rattle.text.specs.Calls.{mostSets, tableSize, recordSize, letterWidth, openWidth, over, FeedsPart, Finishes, Lays, Leaves, Begins};
+ghost use Rattle.text.specs.Calls.{mostSets, tableSize, recordSize, letterWidth, openWidth, over, printedOf, FeedsPart, Finishes, Lays, Leaves, Begins};
 use plan::Reading;
 use predictor::Answer;
 use predictor::Ended;
 use prepare::Prepared;
 
 mod line;
+pub mod run;
 
 // What a call printed: so many bytes, and the report goes on, or they end it (a walk, but for its open lines); or too few bytes are lent.
 pub enum Printed {
@@ -141,7 +142,7 @@ pub fn begin(input: &[u8], table: &mut [u64], rec: &mut [u8], out: &mut [u8]) ->
 
 // Letters are fed to a record, and their lines printed, up to a refusal.
 pub fn feed(table: &[u64], rec: &mut [u8], letters: &[u8], out: &mut [u8]) -> Printed
-    ensures { λ r. ⌜ FeedsPart (now (table .entry)) (now (rec .entry)) (now (letters .entry)) r (now (rec .exit)) (now (out .entry)) (now (out .exit)) ⌝ }
+    ensures { λ r. ⌜ FeedsPart (now (table .entry)) (now (rec .entry)) (now (letters .entry)) r (now (rec .exit)) (now (out .entry)) (now (out .exit)) × (printedOf r ≤ letterWidth * length (now (letters .entry))) ⌝ }
 {
     if out.len() / 24 < letters.len() {
         return Printed::Short;

@@ -6,17 +6,14 @@ use borrow.Author.Needs.{needs}
 use Rattle.report.proofs.print.Statement.{statement}
 use Rattle.report.proofs.print.Tie as tie
 
-returns : tie.Need-returns
-returns c = search needs
-
 slice-aggregate-write-all : tie.Need-slice-aggregate-write-all
-slice-aggregate-write-all c = let a = c .before .before .before .args in sym (length-take-le (a .count) (a .out .now) (c .before .if1 .left))
+slice-aggregate-write-all c = let s = c .before .before in sym (length-take-le (s .args .count) (s .args .out .now) (s .pre))
 
 write-all-requires : tie.Need-write-all-requires
 write-all-requires c κs = search needs
 
-returns-2 : tie.Need-returns-2
-returns-2 c = search needs
+returns : tie.Need-returns
+returns c = search needs
 
 pub print-spec : {M : Type 1} → statement M
-print-spec = tie.close (tie.spec returns slice-aggregate-write-all write-all-requires returns-2)
+print-spec = tie.close (tie.spec slice-aggregate-write-all write-all-requires returns)

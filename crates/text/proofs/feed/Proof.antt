@@ -16,7 +16,7 @@ abbrev μ-loop : tie.MeasureT-loop
 μ-loop table rec₀ letters out₀ at₀ i₀ i-end rec out at i = i-end - i
 
 returns : tie.Need-returns Inv-loop μ-loop
-returns c = (omega arith, refl, refl)
+returns c = ((omega arith, refl, refl), omega arith)
 
 loop-holds : tie.Need-loop-holds Inv-loop μ-loop
 loop-holds c = (omega arith, upto-none _ _ _ _)
@@ -45,7 +45,8 @@ same-length-2 c = c .before .before .before .before .reply .kept .0 ∙ appended
 returns-2 : tie.Need-returns-2 Inv-loop μ-loop
 returns-2 c = let f = c .before .before .before .before .before .before .before .before .feed .ensures in
     let (fed, laid) = upto-refused (c .before .before .before .before .before .before .before .before .before .before .before .before .loop .inv .1) (omega arith) (f .0) (f .1) (c .before .before .before .before .reply .ensures .0) (sym (c .before .is-refusal .ensures) ∙ c .if2 .taken) in
-    (omega (arith, c .before .before .before .before .before .before .before .before .before .before .before .before .before .if1 .left), fed, laid)
+    let few = c .before .before .before .before .before .before .before .before .before .before .before .before .loop .inv .1 .few in
+    ((omega (arith, c .before .before .before .before .before .before .before .before .before .before .before .before .before .if1 .left), fed, laid), omega (arith, few, c .before .before .before .before .reply .ensures .1))
 
 add-i : tie.Need-add-i Inv-loop μ-loop
 add-i c = omega arith
@@ -65,7 +66,8 @@ same-length-4 : tie.Need-same-length-4 Inv-loop μ-loop
 same-length-4 c = appended-long (c .before .loop .inv .1 .put)
 
 returns-3 : tie.Need-returns-3 Inv-loop μ-loop
-returns-3 c = let (fed, laid) = upto-all (c .before .loop .inv .1) (omega arith) in (omega (arith, c .before .before .if1 .left), fed, laid)
+returns-3 c = let (fed, laid) = upto-all (c .before .loop .inv .1) (omega arith) in
+    ((omega (arith, c .before .before .if1 .left), fed, laid), omega (arith, c .before .loop .inv .1 .few))
 
 pub feed-spec : {M : Type 1} → statement M
 feed-spec =

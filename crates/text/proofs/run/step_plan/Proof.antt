@@ -1,0 +1,55 @@
+-- `step_plan` meets its contract.
+-- Assumes nothing.
+use native.Mathlib.Omega.{arith}
+use lib.ListN.{length}
+use Rattle.text.specs.Steps.{reads-on, begins, begins-last}
+use Rattle.text.proofs.Stepping.{both-less, not-both, not-short, readable-letters, readable-over}
+use borrow.Author.Needs.{needs}
+use Rattle.text.proofs.run.step_plan.Statement.{statement}
+use Rattle.text.proofs.run.step_plan.Tie as tie
+
+wanted-requires : tie.Need-wanted-requires
+wanted-requires c κs = search needs
+
+returns : tie.Need-returns
+returns c =
+    let (is, small) = c .before .wanted .ensures in
+    let (more, few) = both-less _ _ _ (rw is at (c .if1 .taken)) in
+    (rw is (reads-on more few), record { order = omega (arith, few, is); fits = omega (arith, small) })
+
+begin-requires : tie.Need-begin-requires
+begin-requires c κs = search needs
+
+enum-known-printed : tie.Need-enum-known-printed
+enum-known-printed c = search needs
+
+enum-known-printed-2 : tie.Need-enum-known-printed-2
+enum-known-printed-2 c = search needs
+
+enum-told : tie.Need-enum-told
+enum-told c = search needs
+
+returns-2 : tie.Need-returns-2
+returns-2 c = (begins (not-both _ _ _ (rw (c .before .before .before .before .before .before .before .before .wanted .ensures .0) at (c .before .before .before .before .before .before .before .if1 .left))) (rw (c .before .printed .given .1) at (c .before .before .before .begin .ensures)), readable-letters)
+
+returns-3 : tie.Need-returns-3
+returns-3 c = (begins-last (not-both _ _ _ (rw (c .before .before .before .before .before .before .before .before .wanted .ensures .0) at (c .before .before .before .before .before .before .before .if1 .left))) (rw (c .before .printed2 .given .1) at (c .before .before .before .begin .ensures)), readable-over)
+
+returns-4 : tie.Need-returns-4
+returns-4 c =
+    let s = c .before .before .before .before .before .before .before .before .before in
+    absurd (not-short (length (s .args .table .now)) (length (s .args .rec .now)) (length (s .args .out .now)) (omega (arith, s .good)) (omega (arith, s .good)) (omega (arith, s .good)) ((rw (c .enum-told .given .1) at (c .before .before .begin .ensures)) .0))
+
+pub step-plan-spec : {M : Type 1} → statement M
+step-plan-spec =
+    tie.close
+    (tie.spec
+    wanted-requires
+    returns
+    begin-requires
+    enum-known-printed
+    enum-known-printed-2
+    enum-told
+    returns-2
+    returns-3
+    returns-4)
