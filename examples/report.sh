@@ -41,7 +41,7 @@ trap 'rm -f "$errors"' EXIT
 echo "report.sh: the report is proved and built, which takes some minutes the first time" >&2
 prove() (
     set -o pipefail
-    cd "$home" && rt check report 2>&1 </dev/null 3<&- | grep --line-buffered '^rt: ' | { grep --line-buffered -v 'unchanged since' || true; }
+    cd "$home" && rt check report 2>&1 </dev/null 3<&- | sed -u -n '/unchanged since/d; s/^rt: /report.sh: /p'
 )
 prove >&2 || fail "it could not be proved and built: 'rt check report' says why"
 

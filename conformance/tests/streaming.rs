@@ -163,8 +163,7 @@ fn a_long_plan_through_a_pipe() {
 
 #[test]
 fn a_leg_is_reported_while_the_pipe_stays_open() {
-    let mut child =
-        Command::new(program()).stdin(Stdio::piped()).stdout(Stdio::piped()).stderr(Stdio::piped()).spawn().expect("it starts");
+    let mut child = Command::new(program()).stdin(Stdio::piped()).stdout(Stdio::piped()).stderr(Stdio::piped()).spawn().expect("it starts");
     let mut stdin = child.stdin.take().expect("is piped");
     let stdout = child.stdout.take().expect("is piped");
     let (told, lines) = mpsc::channel();
@@ -196,7 +195,9 @@ fn nothing_is_read_after_the_end() {
     let path = std::env::temp_dir().join(format!("gawherino-{}-unread", std::process::id()));
     let e = draft(1, 1, &[], &[]);
     // (plan, legs before the rest, bytes that may be read at the most)
-    for (plan, legs, most) in [(plan_a(), vec![9], 26 + 4096), (ring(), vec![0, 0, 1], ring().bytes().len() + 4096), (e.clone(), vec![], e.bytes().len())] {
+    for (plan, legs, most) in
+        [(plan_a(), vec![9], 26 + 4096), (ring(), vec![0, 0, 1], ring().bytes().len() + 4096), (e.clone(), vec![], e.bytes().len())]
+    {
         let mut input = with_legs(&plan, &legs);
         input.resize(input.len() + 100_000, 0);
         std::fs::write(&path, &input).expect("a file can be written");

@@ -6,4 +6,5 @@ pub mod Agreeing
 pub mod Beginning
 pub mod Stepping
 pub mod Running
+pub mod Sample
 pub mod Theorems

@@ -3,7 +3,7 @@
 use Prim.Native.Nat.{ℕ}
 use mathlib.Core.Bool.{true≢false}
 use mathlib.Core.Path.{_≡_, refl, sym, _∙_}
-use mathlib.Core.List.{List}
+use mathlib.Core.List.{List, []}
 use Rattle.bitset.specs.Sets.{any, least, has, setOf}
 use Rattle.semiautomata.specs.Semiautomaton.{Semiautomaton}
 use Rattle.semiautomata.specs.Walks.{spells, step, walkable, possible}
@@ -12,10 +12,13 @@ use Rattle.semiautomata.specs.Demand3.{followed}
 use Rattle.semiautomata.specs.Streaming.{unresolved}
 use Rattle.semiautomata.proofs.Shares.{lookahead-unique, lookahead-predicts}
 use Rattle.demand.proofs.Rows.{rows-hold}
-use Rattle.text.specs.Lines.{digits, decimal, field, countsLine, lookaheadLine, resolutionLine, listed, openLine}
+use Rattle.text.specs.Lines.{digits, decimal, field, countsLine, lookaheadLine, refusedLine, resolutionLine, listed, openLine}
+use Rattle.text.specs.declared.run.Stage.the-variants.{Plan}
 use Rattle.text.specs.Report.{noPlan, openLines, openText, walkText, plainText, AfterLookahead, no-start, walked, AfterCounts, never, predicts, Reports, no-plan, ill-formed, well-formed}
-use Rattle.text.specs.Theorems.{sample, sampleText, Theorems}
+use Rattle.text.specs.Steps.{Runs}
+use Rattle.text.specs.Theorems.{sample, sampleText, refusedSample, refusedText, zeroTable, zeroRecord, Theorems}
 use Rattle.text.proofs.Running.{run-reports}
+use Rattle.text.proofs.Sample.{sample-runs, refused-runs}
 
 -- ONE REPORT
 
@@ -50,9 +53,27 @@ sample-printed : Reports sample sampleText
 unfolding noPlan digits decimal field countsLine lookaheadLine resolutionLine listed openLine openLines openText walkText plainText limit stateAt plainReply plainFeed followed unresolved possible walkable spells step any least has setOf
 sample-printed = let a = rows-hold .0 in well-formed refl (a .well-formed) (predicts 1 (a .holds) (walked 0 refl))
 
+sample-run : Runs (Plan 0 16) [] zeroTable zeroRecord sample sampleText
+sample-run =
+    let (text, run) = sample-runs in
+    rw (one-report (run-reports zeroTable zeroRecord sample text run) sample-printed) at run
+
+-- PLAN B
+
+refused-printed : Reports refusedSample refusedText
+unfolding noPlan digits decimal field countsLine refusedLine
+refused-printed = let b = rows-hold .1 .0 in well-formed refl (b .well-formed) (never (b .holds))
+
+refused-run : Runs (Plan 0 16) [] zeroTable zeroRecord refusedSample refusedText
+refused-run =
+    let (text, run) = refused-runs in
+    rw (one-report (run-reports zeroTable zeroRecord refusedSample text run) refused-printed) at run
+
 pub theorems : (input : List ℕ) → Theorems input
 theorems input = record {
   run-reports = λ table bytes text. run-reports table bytes input text;
   unique = λ a b. one-report;
   sample-printed = sample-printed;
+  sample-run = sample-run;
+  refused-run = refused-run;
 }
