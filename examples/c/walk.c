@@ -93,6 +93,9 @@ int main(void)
     expect("its refusal", GAWHERINO_REFUSAL(answer), GAWHERINO_BAD_TOTAL);
     expect("its group", gawherino_group(GAWHERINO_REFUSAL(answer)), GAWHERINO_AUTHOR);
     expect("a value is no refusal", GAWHERINO_IS_REFUSED(k) || GAWHERINO_REFUSAL(k), 0);
+    i = GAWHERINO_REFUSED + 1;
+    expect("evaluated once", GAWHERINO_IS_REFUSED(i++) ? GAWHERINO_REFUSAL(i++) : 0, 2);
+    expect("twice in all", i, GAWHERINO_REFUSED + 3);
     printf("refused %u author\n", (unsigned)GAWHERINO_REFUSAL(answer));
     expect("no room, cut short", gawherino_read(plan_a, sizeof plan_a - 1, counts, 2), GAWHERINO_REFUSED + 1);
     expect("no room", gawherino_read(plan_a, sizeof plan_a, counts, 2), GAWHERINO_REFUSED + 9);
