@@ -68,7 +68,7 @@ fn count_sound(plan: &[u8], n: usize, m: usize, letters: &mut [u8]) -> Prepared
     let answer = lookahead::look_ahead(&sets, n, m, starts, letters);
     match answer {
         Answer::Lookahead(k) => Prepared::Ready(k),
-        Answer::Never(e) => Prepared::Unpredictable(e),
+        Answer::Never(evidence) => Prepared::Unpredictable(evidence),
     }
 }
 
@@ -78,7 +78,7 @@ pub fn count(plan: &[u8], letters: &mut [u8]) -> Prepared
 {
     let reading = plan::read(plan);
     match reading {
-        Reading::Refused(r) => Prepared::Refused(r),
+        Reading::Refused(number) => Prepared::Refused(number),
         Reading::Counts { n, m, p: _, e: _ } => count_sound(plan, n as usize, m as usize, letters),
     }
 }
