@@ -21,7 +21,8 @@ use Rattle.semiautomata.specs.Walks.{spells, step, reach, survivors, walkable, 
 use Rattle.semiautomata.specs.Successors.{successors}
 use Rattle.semiautomata.specs.Calls.{Reply, refused, resolved, nothing, Check, checked}
 use Rattle.semiautomata.specs.PlainWalk.{limit}
-use Rattle.semiautomata.specs.Streaming.{Rec, base, sound, latest, soleAt, resolve, settle, after, unopened, opened, feed, feedChecks}
+use Rattle.semiautomata.specs.Streaming.{Rec, base, sound, latest, soleAt, resolve, settle, after}
+use Rattle.semiautomata.specs.Streaming.{unopened, openChecks, opened, feed, feedChecks}
 use Rattle.semiautomata.proofs.Computed.{reach-out, spells-in, reach-append, walkable-reach}
 use Rattle.semiautomata.proofs.Paths.{path-lt}
 use Rattle.semiautomata.proofs.Streaming.{length-snoc}
@@ -221,7 +222,7 @@ module _ (S : Semiautomaton) (k : ℕ) where
   opened-left : opened S k .state ≡ after k unopened 0 [] (opened S k .reply)
   unfolding opened
   opened-left =
-      checked-state (record { number = 13; applies = not (any (S .n) (S .initial)) } ∷ []) unopened (after k unopened 0 []) (λ _. refl) (settle S k (S .initial) 0 [])
+      checked-state (openChecks S) unopened (after k unopened 0 []) (λ _. refl) (settle S k (S .initial) 0 [])
 
   pub opened-state : (bytes : List ℕ) → onto k bytes (opened S k) .state ≡ openedInto k bytes (opened S k .reply)
   unfolding openedInto

@@ -3,3 +3,4 @@ pub mod Standing
 pub mod Judging
 pub mod Tables
 pub mod Ending
+pub mod Theorems

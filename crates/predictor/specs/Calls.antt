@@ -11,7 +11,7 @@ use Rattle.bitset.specs.Sets.{setOf}
 use Rattle.semiautomata.specs.Calls.{Reply, refused, resolved, nothing, Result, Check, checked, lowest}
 use Rattle.semiautomata.specs.Outcomes.{Outcome, answered, Gives}
 use Rattle.semiautomata.specs.Outcomes as outcomes
-use Rattle.semiautomata.specs.Streaming.{Rec, opened, feed, finish, soundCheck}
+use Rattle.semiautomata.specs.Streaming.{Rec, openChecks, opened, feedChecks, feed, finish, soundCheck}
 use Rattle.table.specs.Table.{statesOf, lookaheadOf, tableMeaning, unfit}
 use Rattle.predictor.specs.declared.Answer.{Answer}
 use Rattle.predictor.specs.Replies.{said}
@@ -29,6 +29,20 @@ recordCheck table bytes = record { number = 9; applies = ltb (length bytes) (hel
 abbrev pub tidyCheck : List ℕ → List ℕ → Check
 tidyCheck table bytes = record { number = 10; applies = not (tidy (lookaheadOf table) bytes) }
 
+-- The refusals of what is lent: to opening, and to a letter.
+abbrev pub lentChecks : List ℕ → List ℕ → List Check
+lentChecks table bytes = tableCheck table ∷ recordCheck table bytes ∷ []
+
+abbrev pub bytesChecks : List ℕ → List ℕ → List Check
+bytesChecks table bytes = tableCheck table ∷ recordCheck table bytes ∷ tidyCheck table bytes ∷ []
+
+-- With those of the record's rules, all that stand before 14, in order.
+abbrev pub openingChecks : List ℕ → List ℕ → List Check
+openingChecks table bytes = lentChecks table bytes ++ openChecks (tableMeaning table)
+
+abbrev pub letterChecks : List ℕ → List ℕ → ℕ → List Check
+letterChecks table bytes a = bytesChecks table bytes ++ feedChecks (tableMeaning table) (lookaheadOf table) (decode bytes) a
+
 -- What is written of a reply: nothing under a refusal, else the record's bytes, the rest of the buffer as it was.
 abbrev pub written : ℕ → List ℕ → Rec → Reply → List ℕ
 written k bytes r (refused number) = bytes
@@ -40,11 +54,11 @@ onto k bytes done = record { reply = done .reply; state = written k bytes (done 
 
 unfoldable pub openedOn : List ℕ → List ℕ → Result (List ℕ)
 openedOn table bytes =
-    checked (tableCheck table ∷ recordCheck table bytes ∷ []) bytes (onto (lookaheadOf table) bytes (opened (tableMeaning table) (lookaheadOf table)))
+    checked (lentChecks table bytes) bytes (onto (lookaheadOf table) bytes (opened (tableMeaning table) (lookaheadOf table)))
 
 unfoldable pub fedOn : List ℕ → List ℕ → ℕ → Result (List ℕ)
 fedOn table bytes a =
-    checked (tableCheck table ∷ recordCheck table bytes ∷ tidyCheck table bytes ∷ []) bytes
+    checked (bytesChecks table bytes) bytes
     (onto (lookaheadOf table) bytes (feed (tableMeaning table) (lookaheadOf table) (decode bytes) a))
 
 -- What opening, and a letter fed, gives: this answer, and these bytes left in the record.

@@ -1,3 +1,4 @@
 pub mod Replies
 pub mod Calls
 pub mod Parts
+pub mod Theorems

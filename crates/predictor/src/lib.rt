@@ -250,19 +250,19 @@ fn list_open(
 
 // THE CALLS
 
-// A fresh walk.
-pub fn open(table: &[u64], rec: &mut [u8]) -> Answer
-    ensures { λ r. ⌜ Opens (now (table .entry)) (now (rec .entry)) r (now (rec .exit)) ⌝ }
+// A fresh walk, in bytes that may hold anything.
+pub fn open(table: &[u64], fresh: &mut [u8]) -> Answer
+    ensures { λ r. ⌜ Opens (now (table .entry)) (now (fresh .entry)) r (now (fresh .exit)) ⌝ }
 {
     if table::is_unfit(table) {
         return Answer::Refused(8);
     }
     let k = table[2] as usize;
-    if rec.len() < 8 + k {
+    if fresh.len() < 8 + k {
         return Answer::Refused(9);
     }
     let answer = decide_open(k, table[3]);
-    begin(rec, k, answer);
+    begin(fresh, k, answer);
     answer
 }
 

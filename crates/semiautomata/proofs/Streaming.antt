@@ -1,10 +1,10 @@
 -- The streaming rule, which keeps k letters and a resolved state, replies as the plain walk, which keeps all letters.
 -- Assumes nothing.
 use Prim.Native.Nat.{ℕ, suc, _+_, _-_, _≤_, _<_, min, zero-le}
-use mathlib.Core.Bool.{Bool, true, false, cond}
+use mathlib.Core.Bool.{Bool, true, false, cond, true≢false}
 use mathlib.Core.Option.{some, Option·none-ne-some, Option·some-injective}
 use mathlib.Core.Path.{_≡_, refl, sym, _∙_, ap, fun-ext}
-use mathlib.Core.Logic.{_⊎_, inl, inr}
+use mathlib.Core.Logic.{_⊎_, _↔_, inl, inr}
 use mathlib.Core.List.{List, [], _∷_, _++_, append-nil}
 use native.Mathlib.Omega.{arith}
 use native.Mathlib.Numerals.{add-one}
@@ -12,19 +12,20 @@ use native.Mathlib.Nat.{zero-add}
 use lib.Dec.{ltb, leb, eqb}
 use lib.ListN.{length, drop, length-append, length-drop}
 use lib.Seq.{drop-append-le, drop-drop}
-use borrow.Author.Tests.{ltb-true, ltb-false, lt-ltb, le-ltb, le-leb, ne-eqb, leb-true, leb-false, eqb-true, eq-eqb, not-false}
+use borrow.Author.Tests.{ltb-true, ltb-false, lt-ltb, le-ltb, le-leb, ne-eqb, leb-true, leb-false, eqb-true, eqb-false, eq-eqb, not-false}
 use Rattle.bitset.specs.Sets.{size, single}
 use Rattle.bitset.proofs.Tests.{and-out, decided, same-test}
-use Rattle.bitset.proofs.Below.{any-in, any-none, size-two, Sole, sole-size, size-sole, least-sole}
+use Rattle.bitset.proofs.Below.{any-in, any-out, any-none, size-empty, size-two, size-other, Sole, sole-size, size-sole, least-sole}
 use Rattle.semiautomata.specs.Semiautomaton.{Semiautomaton, Within}
 use Rattle.semiautomata.specs.Predictability.{initial, SetPredictable, Predictable}
-use Rattle.semiautomata.specs.Walks.{Walkable, OnPlan, Possible, Only, walkable, possible}
-use Rattle.semiautomata.specs.Calls.{refused, nothing, Result}
+use Rattle.semiautomata.specs.Walks.{Walkable, OnPlan, Possible, TwoPossible, Only, walkable, possible}
+use Rattle.semiautomata.specs.Calls.{refused, nothing, lowest}
 use Rattle.semiautomata.specs.PlainWalk.{limit, stateAt, plainReply, plainChecks, plainFeed, plain, plainTaken}
-use Rattle.semiautomata.specs.Streaming.{Rec, base, rules, every, sound, latest, soleAt, settle, settled, unopened, opened, feedChecks, feed, streamed, recordAfter}
+use Rattle.semiautomata.specs.Streaming.{Rec, base, rules, every, sound, latest, soleAt, settle, Undecided, settled, unopened}
+use Rattle.semiautomata.specs.Streaming.{openChecks, opened, feedChecks, feed, UndecidedBy, streamed, recordAfter}
 use Rattle.semiautomata.proofs.Computed.{walkable-out, walkable-in, possible-out, possible-in}
 use Rattle.semiautomata.proofs.Positions.{single-is, possible-lt, some-possible, possible-unique, restart-walkable, resume-walkable, restart-possible, resume-possible, whole-in, whole-out}
-use Rattle.semiautomata.proofs.Calls.{Among, Outcome, refuses, passes, outcome, Agree, checked-agree, replies-agree, final-agree}
+use Rattle.semiautomata.proofs.Calls.{Passed, Lower, lowest-passed, behind, Agree, checked-agree, replies-agree, final-agree}
 
 pub length-snoc : (w : List ℕ) (a : ℕ) → length (w ++ (a ∷ [])) ≡ suc (length w)
 length-snoc w a = length-append w (a ∷ []) ∙ add-one (length w)
@@ -65,14 +66,103 @@ module _ (S : Semiautomaton) (W : Within S) (X : ℕ → Bool) (below : (s : ℕ
   pub sole-in : Possible S X w i x × ((y : ℕ) → Possible S X w i y → y ≡ x) → soleAt S X w i ≡ some x
   sole-in (c, only) = sole-at S X w i x (possible-sole c only)
 
--- two possible states where a position is due are refused with 14
-pub settle-14 : (S : Semiautomaton) → Within S → (X : ℕ → Bool) → ((s : ℕ) → X s ≡ true → s < S .n) → (k fed : ℕ) → k ≤ fed → (w : List ℕ) (x y : ℕ) → ¬ (x ≡ y)
-    → Possible S X w (length w - k) x → Possible S X w (length w - k) y → settle S k X fed w ≡ refused 14
-unfolding settle soleAt
-settle-14 S W X below k fed late w x y ne c d =
-    let i = length w - k in
-    let two = size-two (S .n) (possible S X w i) x y (possible-lt S X W below c) (possible-lt S X W below d) (possible-in S W X w i x c) (possible-in S W X w i y d) ne in
-    rw (le-ltb fed k late, soleAt, ne-eqb (size (S .n) (possible S X w i)) 1 (λ e. omega arith))
+-- 14 WHERE TWO STATES ARE POSSIBLE
+
+module _ (S : Semiautomaton) (W : Within S) (X : ℕ → Bool) (below : (s : ℕ) → X s ≡ true → s < S .n) (k fed : ℕ) (w : List ℕ) where
+  abbrev due : ℕ → Bool
+  due = possible S X w (length w - k)
+
+  undecided-14 : Undecided S k X fed w → settle S k X fed w ≡ refused 14
+  unfolding settle soleAt
+  undecided-14 u =
+      let t = u .two in
+      let lt : (z : ℕ) → Possible S X w (length w - k) z → z < S .n = λ z c. possible-lt S X W below c in
+      let is : (z : ℕ) → Possible S X w (length w - k) z → due z ≡ true = λ z c. possible-in S W X w (length w - k) z c in
+      let two = size-two (S .n) due (t .x) (t .y) (lt _ (t .one)) (lt _ (t .other)) (is _ (t .one)) (is _ (t .other)) (t .differ) in
+      rw (le-ltb fed k (u .due), soleAt, ne-eqb (size (S .n) due) 1 (λ e. omega arith))
+
+  -- some state is possible, since the letters can be walked
+  more-than-one : Walkable S X w → ¬ (size (S .n) due ≡ 1) → TwoPossible S X w (length w - k)
+  more-than-one o ne =
+      let (x, c) = some-possible S X w (length w - k) o in
+      let member = possible-in S W X w (length w - k) x c in
+      let some : ¬ (size (S .n) due ≡ 0) = λ z. true≢false (sym member ∙ size-empty (S .n) due z x (possible-lt S X W below c)) in
+      let (y, e, d) = size-other (S .n) due (omega arith) x in
+      record { x = x; y = y; differ = λ q. d (sym q); one = c; other = possible-out S X w (length w - k) y e }
+
+  undecided : Walkable S X w → settle S k X fed w ≡ refused 14 → Undecided S k X fed w
+  unfolding settle soleAt
+  undecided o e = go (decided (ltb fed k)) (decided (eqb (size (S .n) due) 1))
+    where
+      go : (ltb fed k ≡ true) ⊎ (ltb fed k ≡ false) → (eqb (size (S .n) due) 1 ≡ true) ⊎ (eqb (size (S .n) due) 1 ≡ false)
+          → Undecided S k X fed w
+      go (inl q) _ = let x : nothing ≡ refused 14 = rw (settle, q) at e in let z : _≡_ {A = ℕ} 0 1 = cc in absurd (omega arith)
+      go (inr q) (inl d) = let x = rw (settle, q, soleAt, d) at e in let z : _≡_ {A = ℕ} 0 1 = cc in absurd (omega arith)
+      go (inr q) (inr d) = record { due = ltb-false fed k q; two = more-than-one o (eqb-false _ _ d) }
+
+-- a record that keeps the rules
+pub record Regular (S : Semiautomaton) (k : ℕ) (r : Rec) : Type 0 where
+  pub fed-le : r .fed ≤ limit
+  pub held-are : length (r .held) ≡ min (r .fed) k
+  pub last-ok : cond (ltb (r .fed) k) (eqb (r .last) 255) (ltb (r .last) (S .n)) ≡ true
+
+module _ (S : Semiautomaton) (W : Within S) (k : ℕ) (r : Rec) where
+  pub rules-out : every (rules S k r) ≡ true → Regular S k r
+  rules-out e =
+      let (a, e) = and-out (leb (r .fed) limit) _ e in
+      let (b, e) = and-out (eqb (length (r .held)) (min (r .fed) k)) _ e in
+      let (c, _) = and-out (cond (ltb (r .fed) k) (eqb (r .last) 255) (ltb (r .last) (S .n))) _ e in
+      record { fed-le = leb-true _ _ a; held-are = eqb-true _ _ b; last-ok = c }
+
+  base-lt : Regular S k r → (s : ℕ) → base S k r s ≡ true → s < S .n
+  unfolding base
+  base-lt g = go (decided (ltb (r .fed) k))
+    where
+      go : (ltb (r .fed) k ≡ true) ⊎ (ltb (r .fed) k ≡ false) → (s : ℕ) → base S k r s ≡ true → s < S .n
+      go (inl e) = rw e (W .initial-lt)
+      go (inr e) = rw e (λ s h. rw (single-is (r .last) s h) (ltb-true (r .last) (S .n) (rw e at (g .last-ok))))
+
+  -- what the checks of a letter show where none applies
+  record Taken (a : ℕ) : Type 0 where
+    regular : Regular S k r
+    walked : Walkable S (base S k r) (r .held ++ (a ∷ []))
+
+  taken : (a : ℕ) → Passed (feedChecks S k r a) → Taken a
+  unfolding sound
+  taken a (rule, (_, (_, (stuck, _)))) = record {
+    regular = rules-out (and-out _ _ (not-false _ rule) .0);
+    walked = walkable-out S (base S k r) (r .held ++ (a ∷ [])) (not-false _ stuck);
+  }
+
+  feed-lower : (a : ℕ) → Lower 14 (feedChecks S k r a)
+  feed-lower a = (omega arith, omega arith, (omega arith, omega arith, (omega arith, omega arith, (omega arith, omega arith, tt))))
+
+  pub feeding-14 : (a : ℕ) → (feed S k r a .reply ≡ refused 14) ↔ ((lowest (feedChecks S k r a) ≡ 0) × UndecidedBy S k r a)
+  unfolding feed
+  feeding-14 a =
+      let w : List ℕ = r .held ++ (a ∷ []) in
+      let passed : lowest (feedChecks S k r a) ≡ 0 → Taken a = λ z. taken a (lowest-passed 14 (feedChecks S k r a) (feed-lower a) z) in
+      let (out, in′) = behind 14 (feedChecks S k r a) (feed-lower a) r (settled S k (base S k r) r (suc (r .fed)) w) in (
+        λ e. let (z, d) = out e in
+            let t = passed z in
+            (z, undecided S W (base S k r) (base-lt (t .regular)) k (suc (r .fed)) w (t .walked) d),
+        λ (z, u). in′ (z, undecided-14 S W (base S k r) (base-lt (passed z .regular)) k (suc (r .fed)) w u),
+      )
+
+module _ (S : Semiautomaton) (W : Within S) (k : ℕ) where
+  open-lower : Lower 14 (openChecks S)
+  open-lower = (omega arith, omega arith, tt)
+
+  pub opening-14 : (opened S k .reply ≡ refused 14) ↔ ((lowest (openChecks S) ≡ 0) × Undecided S k (S .initial) 0 [])
+  unfolding opened
+  opening-14 =
+      let (out, in′) = behind 14 (openChecks S) open-lower unopened (settled S k (S .initial) unopened 0 []) in (
+        λ e. let (z, d) = out e in
+            let (start, _) = lowest-passed 14 (openChecks S) open-lower z in
+            let (s, _, is) = any-out (S .n) (S .initial) (not-false _ start) in
+            (z, undecided S W (S .initial) (W .initial-lt) k 0 [] (empty-walked S s is) d),
+        λ (z, u). in′ (z, undecided-14 S W (S .initial) (W .initial-lt) k 0 [] u),
+      )
 
 module _ (S : Semiautomaton) (W : Within S) (k : ℕ) (P : Predictable S k) where
   -- WHERE k LETTERS FOLLOW, ONE STATE IS POSSIBLE
@@ -223,56 +313,21 @@ module _ (S : Semiautomaton) (W : Within S) (k : ℕ) (P : Predictable S k) wher
         go (inr q) = let x = rw (opened-agrees .reply, plainReply, q) at h in let z : _≡_ {A = ℕ} 0 1 = cc in omega arith
 
   -- 14 ON NO RECORD AT ALL
-  pub record Regular (r : Rec) : Type 0 where
-    pub fed-le : r .fed ≤ limit
-    pub held-are : length (r .held) ≡ min (r .fed) k
-    pub last-ok : cond (ltb (r .fed) k) (eqb (r .last) 255) (ltb (r .last) (S .n)) ≡ true
-
-  pub rules-out : (r : Rec) → every (rules S k r) ≡ true → Regular r
-  rules-out r e =
-      let (a, e) = and-out (leb (r .fed) limit) _ e in
-      let (b, e) = and-out (eqb (length (r .held)) (min (r .fed) k)) _ e in
-      let (c, _) = and-out (cond (ltb (r .fed) k) (eqb (r .last) 255) (ltb (r .last) (S .n))) _ e in
-      record { fed-le = leb-true _ _ a; held-are = eqb-true _ _ b; last-ok = c }
-
-  -- the base of a sound record is k-predictable, and k letters follow the position that is due
-  base-good : (r : Rec) → Regular r → ((s : ℕ) → base S k r s ≡ true → s < S .n) × SetPredictable S (base S k r) k
+  -- the base of a record is k-predictable
+  base-predictable : (r : Rec) → SetPredictable S (base S k r) k
   unfolding base
-  base-good r g = go (decided (ltb (r .fed) k))
+  base-predictable r = go (decided (ltb (r .fed) k))
     where
-      go : (ltb (r .fed) k ≡ true) ⊎ (ltb (r .fed) k ≡ false) → ((s : ℕ) → base S k r s ≡ true → s < S .n) × SetPredictable S (base S k r) k
-      go (inl e) = rw e (W .initial-lt, initial-predictable)
-      go (inr e) = rw e (
-        (λ s h. rw (single-is (r .last) s h) (ltb-true (r .last) (S .n) (rw e at (g .last-ok)))),
-        (λ c. c .rivals .differ (single-is (r .last) (c .s) (c .rivals .left) ∙ sym (single-is (r .last) (c .t) (c .rivals .right)))),
-      )
+      go : (ltb (r .fed) k ≡ true) ⊎ (ltb (r .fed) k ≡ false) → SetPredictable S (base S k r) k
+      go (inl e) = rw e initial-predictable
+      go (inr e) = rw e (λ c. let is = single-is (r .last) in c .rivals .differ (is (c .s) (c .rivals .left) ∙ sym (is (c .t) (c .rivals .right))))
 
-  settle-not-14 : (r : Rec) (w : List ℕ) → Regular r → length w ≡ suc (length (r .held)) → Walkable S (base S k r) w → ¬ (settle S k (base S k r) (suc (r .fed)) w ≡ refused 14)
-  unfolding settle
-  settle-not-14 r w g l o e = go (decided (ltb (suc (r .fed)) k))
-    where
-      go : (ltb (suc (r .fed)) k ≡ true) ⊎ (ltb (suc (r .fed)) k ≡ false) → ⊥
-      go (inl q) = let x : nothing ≡ refused 14 = rw (settle, q) at e in let z : _≡_ {A = ℕ} 0 1 = cc in omega arith
-      go (inr q) =
-          let late : k ≤ suc (r .fed) = ltb-false _ _ q in
-          let (below, pred) = base-good r g in
-          let (x, _, s) = sole-possible (base S k r) below pred w (length w - k) o (omega arith) in
-          let y = rw (settle, q, sole-at S (base S k r) w (length w - k) x s) at e in
-          let z : _≡_ {A = ℕ} 0 1 = cc in omega arith
-
+  -- k letters follow the position that is due, so two states are not possible there
   pub never-14 : (r : Rec) (a : ℕ) → ¬ (feed S k r a .reply ≡ refused 14)
-  unfolding feed sound
-  never-14 r a = go (feed S k r a) (outcome (feedChecks S k r a) r (settled S k (base S k r) r (suc (r .fed)) (r .held ++ (a ∷ []))))
-    where
-      other : (number : ℕ) → number ≡ 14 → ¬ Among number (feedChecks S k r a)
-      other number e (inl x) = omega arith
-      other number e (inr (inl x)) = omega arith
-      other number e (inr (inr (inl x))) = omega arith
-      other number e (inr (inr (inr (inl x)))) = omega arith
-      other number e (inr (inr (inr (inr x)))) = x
-
-      go : (s : Result Rec) → Outcome (feedChecks S k r a) r (settled S k (base S k r) r (suc (r .fed)) (r .held ++ (a ∷ []))) s → ¬ (s .reply ≡ refused 14)
-      go s (refuses number among) e = other number (cc) among
-      go s (passes (rule, (_, (_, (stuck, _))))) e =
-          settle-not-14 r (r .held ++ (a ∷ [])) (rules-out r (and-out _ _ (not-false _ rule) .0)) (length-snoc (r .held) a)
-          (walkable-out S (base S k r) (r .held ++ (a ∷ [])) (not-false _ stuck)) e
+  never-14 r a e =
+      let (z, u) = feeding-14 S W k r a .0 e in
+      let t = u .two in
+      let g = taken S W k r a (lowest-passed 14 (feedChecks S k r a) (feed-lower S W k r a) z) .regular in
+      let w : List ℕ = r .held ++ (a ∷ []) in
+      let follow : length w - k + k ≤ length w = omega (arith, length-snoc (r .held) a, g .held-are, u .due) in
+      t .differ (possible-unique S (base S k r) k (base-predictable r) P w (length w - k) (t .x) (t .y) follow (t .one) (t .other))

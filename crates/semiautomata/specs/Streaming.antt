@@ -1,6 +1,6 @@
 -- The record of document 01 and what opening, a letter fed and ending do with it, before it is laid out in bytes.
 -- Assumes nothing.
-use Prim.Native.Nat.{ℕ, suc, _-_, min}
+use Prim.Native.Nat.{ℕ, suc, _-_, _≤_, min}
 use mathlib.Core.Bool.{Bool, true, not, cond, _&&_}
 use mathlib.Core.Option.{Option, some, none}
 use mathlib.Core.List.{List, [], _∷_, _++_}
@@ -8,7 +8,7 @@ use lib.Dec.{eqb, ltb, leb}
 use lib.ListN.{length, drop}
 use Rattle.bitset.specs.Sets.{any, size, least, single}
 use Rattle.semiautomata.specs.Semiautomaton.{Semiautomaton}
-use Rattle.semiautomata.specs.Walks.{walkable, possible}
+use Rattle.semiautomata.specs.Walks.{TwoPossible, walkable, possible}
 use Rattle.semiautomata.specs.Calls.{Reply, refused, resolved, nothing, Result, Check, checked, replies, final}
 use Rattle.semiautomata.specs.PlainWalk.{limit}
 use Rattle.semiautomata.specs.Demand3.{followed, range, collect}
@@ -63,6 +63,11 @@ resolve i none = refused 14
 unfoldable pub settle : Semiautomaton → ℕ → (ℕ → Bool) → ℕ → List ℕ → Reply
 settle S k X fed w = cond (ltb fed k) nothing (resolve (fed - k) (soleAt S X w (length w - k)))
 
+-- A position is due then, and two or more states are possible there: the sentence of refusal 14.
+pub record Undecided (S : Semiautomaton) (k : ℕ) (X : ℕ → Bool) (fed : ℕ) (w : List ℕ) : Type 0 where
+  pub due : k ≤ fed
+  pub two : TwoPossible S X w (length w - k)
+
 -- The record that a reply leaves of `old`: a refusal leaves it as it is.
 abbrev pub after : ℕ → Rec → ℕ → List ℕ → Reply → Rec
 after k old fed w (refused number) = old
@@ -76,9 +81,11 @@ settled S k X old fed w = record { reply = settle S k X fed w; state = after k o
 abbrev pub unopened : Rec
 unopened = record { fed = 0; last = 255; held = [] }
 
+abbrev pub openChecks : Semiautomaton → List Check
+openChecks S = record { number = 13; applies = not (any (S .n) (S .initial)) } ∷ []
+
 unfoldable pub opened : Semiautomaton → ℕ → Result Rec
-opened S k =
-    checked (record { number = 13; applies = not (any (S .n) (S .initial)) } ∷ []) unopened (settled S k (S .initial) unopened 0 [])
+opened S k = checked (openChecks S) unopened (settled S k (S .initial) unopened 0 [])
 
 -- A letter fed: it is read behind the held letters before anything is resolved.
 abbrev pub feedChecks : Semiautomaton → ℕ → Rec → ℕ → List Check
@@ -91,6 +98,10 @@ feedChecks S k r a =
 
 unfoldable pub feed : Semiautomaton → ℕ → Rec → ℕ → Result Rec
 feed S k r a = checked (feedChecks S k r a) r (settled S k (base S k r) r (suc (r .fed)) (r .held ++ (a ∷ [])))
+
+-- 14 of a letter: it is read, and then the position that is due is undecided.
+abbrev pub UndecidedBy : Semiautomaton → ℕ → Rec → ℕ → Type 0
+UndecidedBy S k r a = Undecided S k (base S k r) (suc (r .fed)) (r .held ++ (a ∷ []))
 
 -- The possible states, lowest position first, of the positions of w, walked from X, that are not followed by k or more letters.
 unfoldable pub unresolved : Semiautomaton → ℕ → (ℕ → Bool) → List ℕ → List (ℕ → Bool)

@@ -5,17 +5,18 @@ use mathlib.Core.Bool.{Bool, true, false}
 use mathlib.Core.Option.{some}
 use mathlib.Core.Path.{_≡_}
 use mathlib.Core.Logic.{_⊎_, _↔_}
-use mathlib.Core.List.{List, _++_}
+use mathlib.Core.List.{List, [], _++_}
 use lib.ListN.{length}
 use Rattle.semiautomata.specs.Semiautomaton.{Semiautomaton, Within, Spells, Accessible, Sub}
 use Rattle.semiautomata.specs.Predictability.{Critical, Counts, Share, Clash, SomeClash, SetPredictable, Need, Predictable, Lookahead, Unpredictable, Claim, Witness}
 use Rattle.semiautomata.specs.Levels.{live, counts, clashIn, clash, Repeats}
 use Rattle.semiautomata.specs.Walks.{Walkable, OnPlan, Longest, Possible, PossibleAt, Only, spells, survivors, walkable, possible, longest}
 use Rattle.semiautomata.specs.Selectors.{Survives, Selector, MinimalSelector, MaximalNonselector, selector, minimalSelector, maximalNonselector}
-use Rattle.semiautomata.specs.Calls.{refused}
+use Rattle.semiautomata.specs.Calls.{refused, lowest}
 use Rattle.semiautomata.specs.PlainWalk.{stateAt, plain, plainTaken}
 use Rattle.semiautomata.specs.Demand3.{Only11to13, Demand3}
-use Rattle.semiautomata.specs.Streaming.{Rec, soleAt, settle, opened, feed, unresolved, finish, streamed, recordAfter}
+use Rattle.semiautomata.specs.Streaming.{Rec, soleAt, Undecided, openChecks, opened, feedChecks, feed, UndecidedBy}
+use Rattle.semiautomata.specs.Streaming.{unresolved, finish, streamed, recordAfter}
 
 -- X is a set of states of S.
 abbrev pub Below : Semiautomaton → (ℕ → Bool) → Type 0
@@ -79,10 +80,13 @@ pub record Theorems (S : Semiautomaton) : Type 0 where
   -- what is resolved is the one possible state: it is possible, and no other is
   pub sole-is : Within S → (X : ℕ → Bool) → Below S X → (w : List ℕ) (i x : ℕ)
       → (soleAt S X w i ≡ some x) ↔ (Possible S X w i x × ((y : ℕ) → Possible S X w i y → y ≡ x))
-  -- 14 is met on no record at all; with another k it is met where two states are possible at the position that is due
+  -- with such a k, 14 is met on no record at all
   pub never-14 : Within S → (k : ℕ) → Predictable S k → (r : Rec) (a : ℕ) → ¬ (feed S k r a .reply ≡ refused 14)
-  pub when-14 : Within S → (X : ℕ → Bool) → Below S X → (k fed : ℕ) → k ≤ fed → (w : List ℕ) (x y : ℕ) → ¬ (x ≡ y)
-      → Possible S X w (length w - k) x → Possible S X w (length w - k) y → settle S k X fed w ≡ refused 14
+  -- with any k, the reply is 14 exactly if no earlier refusal applies, a position is due, and two or more states are possible there: of
+  -- opening, and of a letter fed to any record
+  pub opening-14 : Within S → (k : ℕ) → (opened S k .reply ≡ refused 14) ↔ ((lowest (openChecks S) ≡ 0) × Undecided S k (S .initial) 0 [])
+  pub feeding-14 : Within S → (k : ℕ) (r : Rec) (a : ℕ)
+      → (feed S k r a .reply ≡ refused 14) ↔ ((lowest (feedChecks S k r a) ≡ 0) × UndecidedBy S k r a)
   -- from a fresh opening on, it replies as the plain walk to every list of letters offered; so 10 and 14 are never met there
   pub as-plain : Within S → (k : ℕ) → Predictable S k → (s : ℕ) → S .initial s ≡ true → (offered : List ℕ) → streamed S k offered ≡ plain S k offered
   pub plain-refusals : (k : ℕ) (offered : List ℕ) → Only11to13 (plain S k offered)

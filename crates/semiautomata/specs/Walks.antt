@@ -32,6 +32,14 @@ pub record Possible (S : Semiautomaton) (X : ℕ → Bool) (w : List ℕ) (i x :
   pub before : Path S start (take i w) x
   pub after : Spells S x (drop i w)
 
+-- Two or more states are possible at position i of w walked from X.
+pub record TwoPossible (S : Semiautomaton) (X : ℕ → Bool) (w : List ℕ) (i : ℕ) : Type 0 where
+  pub x : ℕ
+  pub y : ℕ
+  pub differ : ¬ (x ≡ y)
+  pub one : Possible S X w i x
+  pub other : Possible S X w i y
+
 -- x is a possible state at position i of the whole walk w (Theorem 3): with g the length of its longest beginning on the plan, reached
 -- from an initial state by the first i letters, and from it letters i + 1 to g can be walked.
 pub record PossibleAt (S : Semiautomaton) (w : List ℕ) (i x : ℕ) : Type 0 where

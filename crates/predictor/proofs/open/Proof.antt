@@ -48,9 +48,9 @@ returns-3 c =
     let f = fits (c .before .before .before .before .before .before .before .before) in
     let S = tableMeaning (a .table .now) in
     let k = lookaheadOf (a .table .now) in
-    let (reply, state) = as-given (opened-on _ (a .rec .now) f (c .before .before .before .before .before .before .if2 .left)) in
+    let (reply, state) = as-given (opened-on _ (a .fresh .now) f (c .before .before .before .before .before .before .if2 .left)) in
     let answer = c .before .before .before .before .decide-open .ensures ∙ opening-is S k (by-table f) in
-    (answer ∙ reply, c .before .before .begin .ensures ∙ ap (openedInto k (a .rec .now)) answer ∙ sym (opened-state S k (a .rec .now)) ∙ state)
+    (answer ∙ reply, c .before .before .begin .ensures ∙ ap (openedInto k (a .fresh .now)) answer ∙ sym (opened-state S k (a .fresh .now)) ∙ state)
 
 pub open-spec : {M : Type 1} → statement M
 open-spec =
