@@ -16,7 +16,8 @@ use Rattle.text.specs.declared.run.Stage.the-variants.{Plan, Letters, Ov
 use Rattle.text.specs.Lines.{Appended}
 use Rattle.text.specs.Report.{totalOf, lettersOf, noPlan, walkText, Reports}
 use Rattle.text.specs.Calls.{walkOn, LeavesOf, unread, read, Told}
-use Rattle.text.specs.Steps.{readFrom, readUpto, wanted, Steps, reads-on, begins, begins-last, feeds, feeds-last, finishes, stays, Runs, over, on}
+use Rattle.text.specs.Steps.{readFrom, readUpto, wanted, Runs, over, on}
+use Rattle.text.specs.Steps.{Steps, reads-on, begins, begins-last, feeds, feeds-last, finishes, stays}
 use Rattle.text.proofs.Lines.{appended-on}
 use Rattle.text.proofs.Beginning.{whole, total-on}
 
@@ -55,7 +56,8 @@ told-wanted : (input rest : List ℕ) → wanted input ≤ length input → Told
 unfolding noPlan
 told-wanted input rest h none = elim (decided (ltb (totalOf input) 16)) [
   | inl e ↦ rw (total-on input rest (omega arith), e) (or-right (ltb (length (input ++ rest)) 16) true refl)
-  | inr e ↦ absurd (true≢false (sym none ∙ rw (le-ltb (length input) 16 (omega arith), e, le-ltb (length input) (totalOf input) (omega arith))))
+  | inr e ↦ let none′ = rw (le-ltb (length input) 16 (omega arith), e, le-ltb (length input) (totalOf input) (omega arith)) at none in
+      absurd (true≢false (sym none′))
 ]
 
 -- A RUN
@@ -67,8 +69,10 @@ Prints Letters seen table bytes input text = seen ≡ [] → walkOn table bytes 
 Prints Over seen table bytes input text = text ≡ []
 
 step-prints : {stage next : Stage} {table bytes table′ left old : List ℕ} (seen piece rest text : List ℕ) {r : ℕ} {out : List ℕ}
-    → (length piece ≡ 0 → length rest ≡ 0) → length (seen ++ piece) ≤ readUpto stage → Steps (seen ++ piece) table bytes old stage r next table′ left out
-    → Prints next (take (readFrom next) (seen ++ piece)) table′ left rest text → Prints stage seen table bytes (piece ++ rest) (take r out ++ text)
+    → (length piece ≡ 0 → length rest ≡ 0) → length (seen ++ piece) ≤ readUpto stage
+    → Steps (seen ++ piece) table bytes old stage r next table′ left out
+    → Prints next (take (readFrom next) (seen ++ piece)) table′ left rest text
+    → Prints stage seen table bytes (piece ++ rest) (take r out ++ text)
 unfolding walkText
 step-prints seen piece rest text none most (reads-on more few) p = λ from upto.
     rw (← append-assoc seen piece rest) ((rw (take-all (length (seen ++ piece)) (seen ++ piece) (omega arith)) at p) refl refl)
@@ -84,15 +88,18 @@ step-prints seen piece rest text none most (begins-last ready b) p = λ from upt
     ] in
     rw (← append-assoc seen piece rest, written (b .2 .put), p) (b .2 .follows rest told)
 step-prints seen piece rest text none most (feeds _ f) p = λ e. (rw e at (f .2 .follows rest)) ∙ rw (written (f .2 .put), p refl)
-step-prints seen piece rest text none most (feeds-last f q) p = λ e. (rw e at (f .2 .follows rest)) ∙ rw (written (appended-on (f .2 .put) q), p, append-nil)
+step-prints seen piece rest text none most (feeds-last f q) p = λ e.
+    (rw e at (f .2 .follows rest)) ∙ rw (written (appended-on (f .2 .put) q), p, append-nil)
 step-prints seen piece rest text none most (finishes z q) p = λ e.
     let nothing : length piece ≡ 0 = omega (arith, length-append seen piece) in
     rw (empty piece nothing, empty rest (none nothing), written q, p, append-nil)
 step-prints seen piece rest text none most stays p = p
 
-run-prints : {stage : Stage} {seen table bytes input text : List ℕ} → Runs stage seen table bytes input text → Prints stage seen table bytes input text
+run-prints : {stage : Stage} {seen table bytes input text : List ℕ} → Runs stage seen table bytes input text
+    → Prints stage seen table bytes input text
 run-prints over = refl
-run-prints {seen = seen} (on piece rest {text = text} none most step more) = step-prints seen piece rest text none most step (run-prints more)
+run-prints {seen = seen} (on piece rest {text = text} none most step more) =
+    step-prints seen piece rest text none most step (run-prints more)
 
 pub run-reports : (table bytes input text : List ℕ) → Runs (Plan 0 16) [] table bytes input text → Reports input text
 run-reports table bytes input text r = run-prints r refl refl

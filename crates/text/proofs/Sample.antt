@@ -13,6 +13,7 @@ use Rattle.bitset.specs.Sets.{any, size, least, has, setOf}
 use Rattle.bitset.proofs.Tests.{decided}
 use Rattle.bitset.proofs.Bits.{has-setOf}
 use Rattle.semiautomata.specs.Semiautomaton.{Within}
+use Rattle.semiautomata.specs.Predictability.{Lookahead}
 use Rattle.semiautomata.specs.Walks.{spells, step, possible, walkable}
 use Rattle.semiautomata.specs.PlainWalk.{limit}
 use Rattle.semiautomata.specs.Calls.{Reply, resolved, nothing}
@@ -23,7 +24,7 @@ use Rattle.plan.specs.Loading.{Entered, Loaded}
 use Rattle.plan.proofs.Loading.{loaded}
 use Rattle.plan.proofs.Refusals.{well-formed-within}
 use Rattle.plan.specs.declared.Reading.the-variants.{Counts}
-use Rattle.table.specs.Table.{unfit}
+use Rattle.table.specs.Table.{lookaheadOf, tableMeaning, unfit}
 use Rattle.prepare.specs.Preparing.{Tabled}
 use Rattle.prepare.proofs.Answers.{tabled}
 use Rattle.records.specs.Bytes.{tidy}
@@ -43,7 +44,8 @@ use Rattle.text.proofs.Beginning.{counted, never-counted, begun-well}
 use Rattle.text.proofs.Feeding.{Upto, upto-none, upto-next, upto-all}
 
 -- bytes written at a place where there is room for them
-puts : (old : List ℕ) (at : ℕ) (text : List ℕ) → at + length text ≤ length old → Appended old at text (at + length text) (pasted old at text)
+puts : (old : List ℕ) (at : ℕ) (text : List ℕ) → at + length text ≤ length old
+    → Appended old at text (at + length text) (pasted old at text)
 puts old at text h = record { room = record { fits = h }; end = refl; is = refl }
 
 puts-on : {old text : List ℕ} {at r : ℕ} {mid : List ℕ} → Appended old at text r mid → (more : List ℕ) → r + length more ≤ length old
@@ -156,11 +158,13 @@ begun =
     let long = counts-width 3 1 1 3 (omega arith) (omega arith) (omega arith) (omega arith) in
     let put1 = puts lines 0 (countsLine 3 1 1 3) (omega (arith, long)) in
     let put2 = puts-on put1 (lookaheadLine 1) (omega (arith, long, lookahead-width 1 (omega arith))) in
-    let put3 = puts-on put2 [] (omega (arith, appended-long put1, long, lookahead-width 1 (omega arith))) in (
+    let put3 = puts-on put2 [] (omega (arith, appended-long put1, long, lookahead-width 1 (omega arith))) in
+    let L′ : Lookahead (tableMeaning table) (lookaheadOf table) = rw (t .means, t .k-is) L in
+    let laid = opened-goes table (t .fit) L′ zeroRecord (omega arith) (opened-so .0) (opened-so .1) put3 refl in (
       _,
       _,
       begun-well A is-plan is-read put1 (Going _) zeroTable zeroRecord table r1 _ (omega arith, omega arith, omega arith)
-          (counted L t put2 (Going _) _ r1 (opened-goes table (t .fit) (rw (t .means, t .k-is) L) zeroRecord (omega arith) (opened-so .0) (opened-so .1) put3 refl))
+          (counted L t put2 (Going _) _ r1 laid)
           (opens 1 L t (opened-so .1) (rw (← (opened-so .0)))),
     )
 
@@ -193,11 +197,14 @@ fed-one =
 pub sample-runs : (text : List ℕ) × Runs (Plan 0 16) [] zeroTable zeroRecord sample text
 sample-runs = (
   _,
-  on {stage = Plan 0 16} {seen = []} {old = lines} A1 (A2 ++ two ++ one) (λ z. absurd (omega arith)) (omega arith) (reads-on {from = 0} {upto = 16} (omega arith) (omega arith))
-      (on {stage = Plan 16 26} {seen = A1} A2 (two ++ one) (λ z. absurd (omega arith)) (omega arith) (begins {from = 16} {upto = 26} (inr (omega arith)) (begun .2))
+  on {stage = Plan 0 16} {seen = []} {old = lines} A1 (A2 ++ two ++ one) (λ z. absurd (omega arith)) (omega arith)
+      (reads-on {from = 0} {upto = 16} (omega arith) (omega arith))
+      (on {stage = Plan 16 26} {seen = A1} A2 (two ++ one) (λ z. absurd (omega arith)) (omega arith)
+      (begins {from = 16} {upto = 26} (inr (omega arith)) (begun .2))
       (on {stage = Letters} {seen = []} two one (λ z. absurd (omega arith)) (omega arith) (feeds (omega arith) (fed-two .2))
       (on {stage = Letters} {seen = []} one [] (λ z. absurd (omega arith)) (omega arith) (feeds (omega arith) (fed-one .2))
-      (on {stage = Letters} {seen = []} [] [] (λ z. z) (omega arith) (finishes refl (puts (openOn table r4) 0 (openOn table r4) (omega arith))) over)))),
+      (on {stage = Letters} {seen = []} [] [] (λ z. z) (omega arith)
+      (finishes refl (puts (openOn table r4) 0 (openOn table r4) (omega arith))) over)))),
 )
 
 -- PLAN B
@@ -234,7 +241,9 @@ b-begun =
 pub refused-runs : (text : List ℕ) × Runs (Plan 0 16) [] zeroTable zeroRecord refusedSample text
 refused-runs = (
   _,
-  on {stage = Plan 0 16} {seen = []} {old = lines} B1 (B2 ++ two) (λ z. absurd (omega arith)) (omega arith) (reads-on {from = 0} {upto = 16} (omega arith) (omega arith))
-      (on {stage = Plan 16 26} {seen = B1} B2 two (λ z. absurd (omega arith)) (omega arith) (begins-last {from = 16} {upto = 26} (inr (omega arith)) (b-begun .2))
+  on {stage = Plan 0 16} {seen = []} {old = lines} B1 (B2 ++ two) (λ z. absurd (omega arith)) (omega arith)
+      (reads-on {from = 0} {upto = 16} (omega arith) (omega arith))
+      (on {stage = Plan 16 26} {seen = B1} B2 two (λ z. absurd (omega arith)) (omega arith)
+      (begins-last {from = 16} {upto = 26} (inr (omega arith)) (b-begun .2))
       over),
 )

@@ -23,7 +23,8 @@ pub part-long : (at : ℕ) (old : List ℕ) → length (take (length old - at) (
 part-long at old = rw (part-whole at (length old - at) old (omega arith)) (length-drop at old)
 
 -- written at the front of a lent part, and so from its place on
-pub appended-part : (at : ℕ) (old text : List ℕ) {r : ℕ} (part : List ℕ) → at ≤ length old → Appended (take (length old - at) (drop at old)) 0 text r part
+pub appended-part : (at : ℕ) (old text : List ℕ) {r : ℕ} (part : List ℕ) → at ≤ length old
+    → Appended (take (length old - at) (drop at old)) 0 text r part
     → Appended old at text (at + r) (take at old ++ (part ++ drop (length old - at) (drop at old)))
 appended-part at old text {r} part h p =
     let e : at + (0 + length text) ≡ at + length text = omega arith in
@@ -46,7 +47,8 @@ not-both a b c e = elim (decided (ltb a b)) [
 ]
 
 -- the buffers are long enough
-pub not-short : (a b c : ℕ) → tableSize ≤ a → recordSize ≤ b → beginWidth ≤ c → (ltb a tableSize || (ltb b recordSize || ltb c beginWidth)) ≡ true → ⊥
+pub not-short : (a b c : ℕ) → tableSize ≤ a → recordSize ≤ b → beginWidth ≤ c
+    → (ltb a tableSize || (ltb b recordSize || ltb c beginWidth)) ≡ true → ⊥
 not-short a b c f g h e = true≢false (sym e ∙ rw (le-ltb a tableSize f, le-ltb b recordSize g, le-ltb c beginWidth h))
 
 -- what a step answers lies within the buffer

@@ -14,7 +14,8 @@ use Rattle.semiautomata.proofs.Shares.{lookahead-unique, lookahead-predicts}
 use Rattle.demand.proofs.Rows.{rows-hold}
 use Rattle.text.specs.Lines.{digits, decimal, field, countsLine, lookaheadLine, refusedLine, resolutionLine, listed, openLine}
 use Rattle.text.specs.declared.run.Stage.the-variants.{Plan}
-use Rattle.text.specs.Report.{noPlan, openLines, openText, walkText, plainText, AfterLookahead, no-start, walked, AfterCounts, never, predicts, Reports, no-plan, ill-formed, well-formed}
+use Rattle.text.specs.Report.{noPlan, openLines, openText, walkText, plainText, AfterLookahead, no-start, walked}
+use Rattle.text.specs.Report.{AfterCounts, never, predicts, Reports, no-plan, ill-formed, well-formed}
 use Rattle.text.specs.Steps.{Runs}
 use Rattle.text.specs.Theorems.{sample, sampleText, refusedSample, refusedText, zeroTable, zeroRecord, Theorems}
 use Rattle.text.proofs.Running.{run-reports}

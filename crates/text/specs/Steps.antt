@@ -45,8 +45,8 @@ pub data Steps (input table bytes old : List ℕ) : Stage → ℕ → Stage → 
   -- letters came: their lines, and the walk goes on; or a refusal ends it, and the open lines follow
   feeds : 0 < length input → {r : ℕ} {left out : List ℕ} → FeedsPart table bytes input (Going r) left old out
       → Steps input table bytes old Letters r Letters table left out
-  feeds-last : {at r : ℕ} {left mid out : List ℕ} → FeedsPart table bytes input (Ended at) left old mid → Appended mid at (openOn table left) r out
-      → Steps input table bytes old Letters r Over table left out
+  feeds-last : {at r : ℕ} {left mid out : List ℕ} → FeedsPart table bytes input (Ended at) left old mid
+      → Appended mid at (openOn table left) r out → Steps input table bytes old Letters r Over table left out
   -- none came: the input is at its end, and the open lines follow
   finishes : length input ≡ 0 → {r : ℕ} {out : List ℕ} → Appended old 0 (openOn table bytes) r out
       → Steps input table bytes old Letters r Over table bytes out

@@ -13,7 +13,8 @@ ghost use Rattle.predictor.specs.Calls.{openedOn};
 ghost use Rattle.predictor.specs.Parts.{isRefusal};
 ghost use Rattle.text.specs.Lines.{Appended};
 ghost use Rattle.text.specs.Report.{totalOf, noPlan, replyText, openLines, AfterLookahead, AfterCounts};
-ghost use Rattle.text.specs.Calls.{mostSets, tableSize, recordSize, letterWidth, openWidth, over, printedOf, FeedsPart, Finishes, Lays, Leaves, Begins};
+ghost use Rattle.text.specs.Calls.{mostSets, tableSize, recordSize, letterWidth, openWidth, over, printedOf};
+ghost use Rattle.text.specs.Calls.{FeedsPart, Finishes, Lays, Leaves, Begins};
 use plan::Reading;
 use predictor::Answer;
 use predictor::Ended;
@@ -142,7 +143,8 @@ pub fn begin(input: &[u8], table: &mut [u64], rec: &mut [u8], out: &mut [u8]) ->
 
 // Letters are fed to a record, and their lines printed, up to a refusal.
 pub fn feed(table: &[u64], rec: &mut [u8], letters: &[u8], out: &mut [u8]) -> Printed
-    ensures { λ r. ⌜ FeedsPart (now (table .entry)) (now (rec .entry)) (now (letters .entry)) r (now (rec .exit)) (now (out .entry)) (now (out .exit)) × (printedOf r ≤ letterWidth * length (now (letters .entry))) ⌝ }
+    ensures { λ r. ⌜ FeedsPart (now (table .entry)) (now (rec .entry)) (now (letters .entry)) r (now (rec .exit))
+        (now (out .entry)) (now (out .exit)) × (printedOf r ≤ letterWidth * length (now (letters .entry))) ⌝ }
 {
     if out.len() / 24 < letters.len() {
         return Printed::Short;

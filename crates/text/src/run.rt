@@ -77,7 +77,8 @@ fn step_plan(
     rec: &mut [u8; 2024],
     out: &mut [u8; 551904],
 ) -> Next
-    ensures { λ r. ⌜ Steps (now (input .entry)) (now (table .entry)) (now (rec .entry)) (now (out .entry)) (Plan from upto) (r .count) (r .stage) (now (table .exit)) (now (rec .exit)) (now (out .exit)) × Readable (r .stage) ⌝ }
+    ensures { λ r. ⌜ Steps (now (input .entry)) (now (table .entry)) (now (rec .entry)) (now (out .entry))
+        (Plan from upto) (r .count) (r .stage) (now (table .exit)) (now (rec .exit)) (now (out .exit)) × Readable (r .stage) ⌝ }
 {
     let end = wanted(input);
     if (from < input.len()) & (input.len() < end) {
@@ -112,7 +113,8 @@ fn step_letters(
     out: &mut [u8; 551904],
 ) -> Next
     requires { ⌜ length (now input) ≤ 4096 ⌝ }
-    ensures { λ r. ⌜ Steps (now (input .entry)) (now (table .entry)) (now (rec .entry)) (now (out .entry)) Letters (r .count) (r .stage) (now (table .entry)) (now (rec .exit)) (now (out .exit)) × Readable (r .stage) ⌝ }
+    ensures { λ r. ⌜ Steps (now (input .entry)) (now (table .entry)) (now (rec .entry)) (now (out .entry))
+        Letters (r .count) (r .stage) (now (table .entry)) (now (rec .exit)) (now (out .exit)) × Readable (r .stage) ⌝ }
 {
     if input.len() == 0 {
         let count = finish_at(table, rec, out, 0);
@@ -150,7 +152,8 @@ pub fn step(
     out: &mut [u8; 551904],
 ) -> Next
     requires { ⌜ length (now input) ≤ readUpto stage ⌝ }
-    ensures { λ r. ⌜ Steps (now (input .entry)) (now (table .entry)) (now (rec .entry)) (now (out .entry)) stage (r .count) (r .stage) (now (table .exit)) (now (rec .exit)) (now (out .exit)) × Readable (r .stage) ⌝ }
+    ensures { λ r. ⌜ Steps (now (input .entry)) (now (table .entry)) (now (rec .entry)) (now (out .entry))
+        stage (r .count) (r .stage) (now (table .exit)) (now (rec .exit)) (now (out .exit)) × Readable (r .stage) ⌝ }
 {
     match stage {
         Stage::Plan { from, upto } => step_plan(from, upto, input, table, rec, out),

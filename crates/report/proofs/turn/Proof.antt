@@ -63,7 +63,8 @@ slice-aggregate-step c = sym (length-take-le _ _ (slice-reshare-prefix-step (c .
 step-requires : tie.Need-step-requires
 step-requires c κs =
     let few = simp (length-take, length-drop) at (c .before .before .before .before .count .ensures .0 .0) in
-    simp length-take (omega (arith, few, c .before .before .before .before .before .before .before .before .before .before .before .before .upto .ensures, c .before .before .before .before .before .before .before .before .before .before .before .before .before .from .ensures, c .before .before .before .before .before .before .before .before .before .before .before .before .before .before .before .pre .0 .order))
+    let u = c .before .before .before .before .before .before .before .before .before .before .before .before in
+    simp length-take (omega (arith, few, u .upto .ensures, u .before .from .ensures, u .before .before .before .pre .0 .order))
 
 print-requires : tie.Need-print-requires
 print-requires c κs = count-within (c .before .before .step .ensures .0)

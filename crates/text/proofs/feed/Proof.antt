@@ -44,9 +44,11 @@ same-length-2 c = c .before .before .before .before .reply .kept .0 ∙ appended
 
 returns-2 : tie.Need-returns-2 Inv-loop μ-loop
 returns-2 c = let f = c .before .before .before .before .before .before .before .before .feed .ensures in
-    let (fed, laid) = upto-refused (c .before .before .before .before .before .before .before .before .before .before .before .before .loop .inv .1) (omega arith) (f .0) (f .1) (c .before .before .before .before .reply .ensures .0) (sym (c .before .is-refusal .ensures) ∙ c .if2 .taken) in
-    let few = c .before .before .before .before .before .before .before .before .before .before .before .before .loop .inv .1 .few in
-    ((omega (arith, c .before .before .before .before .before .before .before .before .before .before .before .before .before .if1 .left), fed, laid), omega (arith, few, c .before .before .before .before .reply .ensures .1))
+    let u = c .before .before .before .before .before .before .before .before .before .before .before .before .loop .inv .1 in
+    let p = c .before .before .before .before .reply .ensures in
+    let lent = c .before .before .before .before .before .before .before .before .before .before .before .before .before .if1 .left in
+    let (fed, laid) = upto-refused u (omega arith) (f .0) (f .1) (p .0) (sym (c .before .is-refusal .ensures) ∙ c .if2 .taken) in
+    ((omega (arith, lent), fed, laid), omega (arith, u .few, p .1))
 
 add-i : tie.Need-add-i Inv-loop μ-loop
 add-i c = omega arith

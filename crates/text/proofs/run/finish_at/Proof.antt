@@ -30,7 +30,8 @@ enum-known-printed-2 c = search needs
 add-result-2 : tie.Need-add-result-2
 add-result-2 c =
     let s = c .before .before .before .before .before .before .before .before .before .before in
-    omega (arith, s .pre, part-long (s .args .at) (s .args .out .now), (rw (c .before .printed2 .given .1) at (c .before .before .before .before .before .finish .ensures)) .1 .room .fits, (rw (c .before .printed2 .given .1) at (c .before .before .before .before .before .finish .ensures)) .1 .end)
+    let p = (rw (c .before .printed2 .given .1) at (c .before .before .before .before .before .finish .ensures)) .1 in
+    omega (arith, s .pre, part-long (s .args .at) (s .args .out .now), p .room .fits, p .end)
 
 enum-told : tie.Need-enum-told
 enum-told c = search needs
@@ -47,7 +48,8 @@ same-length-2 c = search needs
 returns-2 : tie.Need-returns-2
 returns-2 c =
     let s = c .before .before .before .before .before .before .before .before .before .before in
-    appended-part (s .args .at) (s .args .out .now) _ _ (omega (arith, s .pre)) ((rw (c .before .printed2 .given .1) at (c .before .before .before .before .before .finish .ensures)) .1)
+    let p = (rw (c .before .printed2 .given .1) at (c .before .before .before .before .before .finish .ensures)) .1 in
+    appended-part (s .args .at) (s .args .out .now) _ _ (omega (arith, s .pre)) p
 
 same-length-3 : tie.Need-same-length-3
 same-length-3 c = search needs
@@ -55,7 +57,8 @@ same-length-3 c = search needs
 returns-3 : tie.Need-returns-3
 returns-3 c =
     let s = c .before .before .before .before .before .before .before .before .before in
-    absurd (omega (arith, s .pre, part-long (s .args .at) (s .args .out .now), (rw (c .enum-told .given .1) at (c .before .before .before .before .finish .ensures)) .0))
+    let short = (rw (c .enum-told .given .1) at (c .before .before .before .before .finish .ensures)) .0 in
+    absurd (omega (arith, s .pre, part-long (s .args .at) (s .args .out .now), short))
 
 pub finish-at-spec : {M : Type 1} → statement M
 finish-at-spec =

@@ -24,18 +24,23 @@ enum-known-printed-2 c = search needs
 
 finish-at-requires-2 : tie.Need-finish-at-requires-2
 finish-at-requires-2 c κs =
+    let f = c .before .before .before .before .before .before .before .feed in
+    let few = rw (c .before .before .before .before .before .printed2 .given .1) at (f .ensures .1) in
     let s = c .before .before .before .before .before .before .before .before .before .before .before .before .before in
-    let few = rw (c .before .before .before .before .before .printed2 .given .1) at (c .before .before .before .before .before .before .before .feed .ensures .1) in
-    omega (arith, s .pre, few, s .good, c .before .before .before .before .before .before .before .feed .kept .1 .1 .1 .0)
+    omega (arith, s .pre, few, s .good, f .kept .1 .1 .1 .0)
 
 enum-told : tie.Need-enum-told
 enum-told c = search needs
 
 returns-2 : tie.Need-returns-2
-returns-2 c = (feeds (omega (arith, c .before .before .before .before .before .before .before .if1 .left)) (rw (c .before .printed .given .1) at (c .before .before .before .feed .ensures .0)), readable-letters)
+returns-2 c =
+    let came = c .before .before .before .before .before .before .before .if1 .left in
+    (feeds (omega (arith, came)) (rw (c .before .printed .given .1) at (c .before .before .before .feed .ensures .0)), readable-letters)
 
 returns-3 : tie.Need-returns-3
-returns-3 c = (feeds-last (rw (c .before .before .before .before .before .before .printed2 .given .1) at (c .before .before .before .before .before .before .before .before .feed .ensures .0)) (c .finish-at2 .ensures), readable-over)
+returns-3 c =
+    let f = c .before .before .before .before .before .before .before .before .feed .ensures .0 in
+    (feeds-last (rw (c .before .before .before .before .before .before .printed2 .given .1) at f) (c .finish-at2 .ensures), readable-over)
 
 returns-4 : tie.Need-returns-4
 returns-4 c =

@@ -1,12 +1,20 @@
 -- `step_plan` meets its contract.
 -- Assumes nothing.
+use Prim.Native.Nat.{_≤_}
+use mathlib.Core.Logic.{_⊎_}
 use native.Mathlib.Omega.{arith}
 use lib.ListN.{length}
-use Rattle.text.specs.Steps.{reads-on, begins, begins-last}
+use Rattle.text.specs.Calls.{tableSize, recordSize, beginWidth}
+use Rattle.text.specs.Steps.{wanted, reads-on, begins, begins-last}
 use Rattle.text.proofs.Stepping.{both-less, not-both, not-short, readable-letters, readable-over}
 use borrow.Author.Needs.{needs}
 use Rattle.text.proofs.run.step_plan.Statement.{statement}
 use Rattle.text.proofs.run.step_plan.Tie as tie
+
+-- all of the plan is there, or nothing came
+ready : (c : tie.Else1) → let a = c .before .before .before .args in
+    (length (a .input .now) ≤ a .from) ⊎ (wanted (a .input .now) ≤ length (a .input .now))
+ready c = not-both _ _ _ (rw (c .before .wanted .ensures .0) at (c .if1 .left))
 
 wanted-requires : tie.Need-wanted-requires
 wanted-requires c κs = search needs
@@ -30,15 +38,23 @@ enum-told : tie.Need-enum-told
 enum-told c = search needs
 
 returns-2 : tie.Need-returns-2
-returns-2 c = (begins (not-both _ _ _ (rw (c .before .before .before .before .before .before .before .before .wanted .ensures .0) at (c .before .before .before .before .before .before .before .if1 .left))) (rw (c .before .printed .given .1) at (c .before .before .before .begin .ensures)), readable-letters)
+returns-2 c =
+    let b = rw (c .before .printed .given .1) at (c .before .before .before .begin .ensures) in
+    (begins (ready (c .before .before .before .before .before .before .before)) b, readable-letters)
 
 returns-3 : tie.Need-returns-3
-returns-3 c = (begins-last (not-both _ _ _ (rw (c .before .before .before .before .before .before .before .before .wanted .ensures .0) at (c .before .before .before .before .before .before .before .if1 .left))) (rw (c .before .printed2 .given .1) at (c .before .before .before .begin .ensures)), readable-over)
+returns-3 c =
+    let b = rw (c .before .printed2 .given .1) at (c .before .before .before .begin .ensures) in
+    (begins-last (ready (c .before .before .before .before .before .before .before)) b, readable-over)
 
 returns-4 : tie.Need-returns-4
 returns-4 c =
     let s = c .before .before .before .before .before .before .before .before .before in
-    absurd (not-short (length (s .args .table .now)) (length (s .args .rec .now)) (length (s .args .out .now)) (omega (arith, s .good)) (omega (arith, s .good)) (omega (arith, s .good)) ((rw (c .enum-told .given .1) at (c .before .before .begin .ensures)) .0))
+    let a = s .args in
+    let short = (rw (c .enum-told .given .1) at (c .before .before .begin .ensures)) .0 in
+    let long : (tableSize ≤ length (a .table .now)) × (recordSize ≤ length (a .rec .now)) × (beginWidth ≤ length (a .out .now)) =
+    (omega (arith, s .good), omega (arith, s .good), omega (arith, s .good)) in
+    absurd (not-short _ _ _ (long .0) (long .1) (long .2) short)
 
 pub step-plan-spec : {M : Type 1} → statement M
 step-plan-spec =
