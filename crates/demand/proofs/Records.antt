@@ -13,7 +13,7 @@ use Rattle.semiautomata.specs.Predictability.{Predictable}
 use Rattle.semiautomata.specs.Calls.{Reply, refused, resolved, nothing, Result, replies}
 use Rattle.semiautomata.specs.PlainWalk.{limit, plainFeed}
 use Rattle.semiautomata.specs.Streaming.{Rec, settled, opened, feed, feedChecks, base}
-use Rattle.semiautomata.proofs.Calls.{Outcome, refuses, passes, outcome}
+use Rattle.semiautomata.proofs.Calls.{Course, refuses, passes, course}
 use Rattle.semiautomata.proofs.Streaming.{Follows, feed-agrees}
 use Rattle.table.specs.Table.{lookaheadOf, tableMeaning, unfit}
 use Rattle.predictor.specs.declared.Answer.{Answer}
@@ -53,12 +53,12 @@ written-holds k bytes r next nothing h s keeps = encode-holds k next bytes (h .r
 -- a refused letter leaves the record
 pub feed-keeps : (S : Semiautomaton) (k : ℕ) (r : Rec) (a x : ℕ) → feed S k r a .reply ≡ refused x → feed S k r a .state ≡ r
 unfolding feed
-feed-keeps S k r a x = go (feed S k r a) (outcome (feedChecks S k r a) r done)
+feed-keeps S k r a x = go (feed S k r a) (course (feedChecks S k r a) r done)
   where
     done : Result Rec
     done = settled S k (base S k r) r (Prim.Native.Nat.suc (r .fed)) (r .held ++ (a ∷ []))
 
-    go : (s : Result Rec) → Outcome (feedChecks S k r a) r done s → s .reply ≡ refused x → s .state ≡ r
+    go : (s : Result Rec) → Course (feedChecks S k r a) r done s → s .reply ≡ refused x → s .state ≡ r
     go s (refuses number _) e = refl
     go s (passes _) e = rw e
 

@@ -16,7 +16,7 @@ use Rattle.semiautomata.specs.Predictability.{Predictable, Lookahead}
 use Rattle.semiautomata.specs.Calls.{Reply, refused, resolved, nothing, Result, Check}
 use Rattle.semiautomata.specs.Demand3.{Demand3}
 use Rattle.semiautomata.specs.Streaming.{opened, feed, streamed}
-use Rattle.semiautomata.proofs.Calls.{Among, Outcome, refuses, passes, outcome}
+use Rattle.semiautomata.proofs.Calls.{Among, Course, refuses, passes, course}
 use Rattle.semiautomata.proofs.Streaming.{opened-none, opened-some, opened-agrees, never-14}
 use Rattle.semiautomata.proofs.Demand3 as over-meaning
 use Rattle.semiautomata.proofs.Bound.{lookahead-bound, lookahead-bound-one}
@@ -49,7 +49,7 @@ module _ (table : List ℕ) (fit : unfit table ≡ false) (P : Predictable (tabl
 
   on-never-14 : (bytes : List ℕ) (a : ℕ) → ¬ (fedOn table bytes a .reply ≡ refused 14)
   unfolding fedOn
-  on-never-14 bytes a = go (fedOn table bytes a) (outcome checks bytes done)
+  on-never-14 bytes a = go (fedOn table bytes a) (course checks bytes done)
     where
       checks : List Check
       checks = tableCheck table ∷ recordCheck table bytes ∷ tidyCheck table bytes ∷ []
@@ -63,7 +63,7 @@ module _ (table : List ℕ) (fit : unfit table ≡ false) (P : Predictable (tabl
       other number e (inr (inr (inl x))) = omega arith
       other number e (inr (inr (inr x))) = x
 
-      go : (s : Result (List ℕ)) → Outcome checks bytes done s → ¬ (s .reply ≡ refused 14)
+      go : (s : Result (List ℕ)) → Course checks bytes done s → ¬ (s .reply ≡ refused 14)
       go s (refuses number among) e = other number (cc) among
       go s (passes _) e = never-14 (tableMeaning table) W (lookaheadOf table) P (decode bytes) a e
 

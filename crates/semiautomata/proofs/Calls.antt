@@ -20,20 +20,20 @@ Among number [] = ⊥
 Among number (c ∷ cs) = (number ≡ c .number) ⊎ Among number cs
 
 -- what a call with checks is: refused by one of them, with the state kept, or done
-pub data Outcome {A : Type 0} (cs : List Check) (state : A) (done : Result A) : Result A → Type 0 where
-  refuses : (number : ℕ) → Among number cs → Outcome cs state done (record { reply = refused number; state = state })
-  passes : Passed cs → Outcome cs state done done
+pub data Course {A : Type 0} (cs : List Check) (state : A) (done : Result A) : Result A → Type 0 where
+  refuses : (number : ℕ) → Among number cs → Course cs state done (record { reply = refused number; state = state })
+  passes : Passed cs → Course cs state done done
 
-pub outcome : {A : Type 0} (cs : List Check) (state : A) (done : Result A) → Outcome cs state done (checked cs state done)
-outcome [] state done = passes tt
-outcome (c ∷ cs) state done = go (c .applies) refl (outcome cs state done)
+pub course : {A : Type 0} (cs : List Check) (state : A) (done : Result A) → Course cs state done (checked cs state done)
+course [] state done = passes tt
+course (c ∷ cs) state done = go (c .applies) refl (course cs state done)
   where
-    more : (s : Result _) → c .applies ≡ false → Outcome cs state done s → Outcome (c ∷ cs) state done s
+    more : (s : Result _) → c .applies ≡ false → Course cs state done s → Course (c ∷ cs) state done s
     more s e (refuses r a) = refuses r (inr a)
     more s e (passes p) = passes (e, p)
 
-    go : (b : Bool) → c .applies ≡ b → Outcome cs state done (checked cs state done)
-        → Outcome (c ∷ cs) state done (cond b (record { reply = refused (c .number); state = state }) (checked cs state done))
+    go : (b : Bool) → c .applies ≡ b → Course cs state done (checked cs state done)
+        → Course (c ∷ cs) state done (cond b (record { reply = refused (c .number); state = state }) (checked cs state done))
     go true e o = refuses (c .number) (inl refl)
     go false e o = more (checked cs state done) e o
 
@@ -78,9 +78,9 @@ passed-done (c ∷ cs) state done (e, p) = rw e (passed-done cs state done p)
 pub behind : {A : Type 0} (number : ℕ) (cs : List Check) → Lower number cs → (state : A) (done : Result A)
     → (checked cs state done .reply ≡ refused number) ↔ ((lowest cs ≡ 0) × (done .reply ≡ refused number))
 behind {A} number cs l state done =
-    (go (checked cs state done) (outcome cs state done), λ (z, e). rw (passed-done cs state done (lowest-passed number cs l z)) e)
+    (go (checked cs state done) (course cs state done), λ (z, e). rw (passed-done cs state done (lowest-passed number cs l z)) e)
   where
-    go : (s : Result A) → Outcome cs state done s → s .reply ≡ refused number → (lowest cs ≡ 0) × (done .reply ≡ refused number)
+    go : (s : Result A) → Course cs state done s → s .reply ≡ refused number → (lowest cs ≡ 0) × (done .reply ≡ refused number)
     go s (refuses r a) e = let h = lower-among number cs l r a in let same : r ≡ number = cc in absurd (omega arith)
     go s (passes p) e = (passed-lowest cs p, e)
 

@@ -20,7 +20,7 @@ use Rattle.semiautomata.specs.Demand3.{accepted, Resolution, resolutions
 use Rattle.semiautomata.specs.Streaming.{Rec, base, unresolved, finish, streamed, recordAfter}
 use Rattle.semiautomata.proofs.Computed.{walkable-out}
 use Rattle.semiautomata.proofs.Positions.{possible-earlier, whole-in, whole-out}
-use Rattle.semiautomata.proofs.Calls.{Among, Outcome, refuses, passes, outcome}
+use Rattle.semiautomata.proofs.Calls.{Among, Course, refuses, passes, course}
 use Rattle.semiautomata.proofs.Streaming.{length-snoc, empty-walked, only-state, Follows, view, streamed-plain, record-follows}
 
 -- COLLECTING OVER A RANGE
@@ -92,12 +92,12 @@ pub data Offered (S : Semiautomaton) (k : ℕ) (w : List ℕ) (a : ℕ) : Result
 module _ (S : Semiautomaton) (k : ℕ) where
   pub offered-cases : (w : List ℕ) (a : ℕ) → Offered S k w a (plainFeed S k w a)
   unfolding plainFeed
-  offered-cases w a = go (plainFeed S k w a) (outcome (plainChecks S w a) w done)
+  offered-cases w a = go (plainFeed S k w a) (course (plainChecks S w a) w done)
     where
       done : Result (List ℕ)
       done = record { reply = plainReply S k (w ++ (a ∷ [])); state = w ++ (a ∷ []) }
 
-      go : (s : Result (List ℕ)) → Outcome (plainChecks S w a) w done s → Offered S k w a s
+      go : (s : Result (List ℕ)) → Course (plainChecks S w a) w done s → Offered S k w a s
       go s (refuses number among) = refuses-it number among
       go s (passes (_, (_, (stuck, _)))) = takes-it (walkable-out S (S .initial) (w ++ (a ∷ [])) (not-false _ stuck))
 
