@@ -75,7 +75,7 @@ starts-are : 1 ≡ setOf 3 (meaning planA .initial)
 unfolding setOf any
 starts-are = refl
 
-is-loaded : Loaded planA (0 ∷ 0 ∷ 0 ∷ []) sets 1
+pub is-loaded : Loaded planA (0 ∷ 0 ∷ 0 ∷ []) sets 1
 is-loaded = loaded planA well-formed (headerOf planA) refl (omega arith) entered starts-are
 
 no-refusal : prepareRefusal planA 8 9 ≡ 0

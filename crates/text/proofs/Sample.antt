@@ -1,39 +1,33 @@
 -- Two closed runs: document 01's sample, over buffers of zeros as the program has them, and plan B, which ends with its second line.
 -- Assumes nothing.
-use Prim.Native.Nat.{ℕ, zero, suc, _+_, _*_, _^_, _≤_, _<_}
-use mathlib.Core.Bool.{true, false, and-false}
-use mathlib.Core.Logic.{inl, inr}
+use Prim.Native.Nat.{ℕ, _+_, _≤_}
+use mathlib.Core.Bool.{false}
+use mathlib.Core.Logic.{inr}
 use mathlib.Core.Path.{_≡_, refl}
 use mathlib.Core.List.{List, [], _∷_, _++_}
 use native.Mathlib.Omega.{arith}
-use lib.Dec.{ltb}
-use lib.ListN.{length, getD, replicate, length-replicate}
-use borrow.Author.Tests.{lt-ltb}
-use Rattle.bitset.specs.Sets.{any, size, least, has, setOf}
-use Rattle.bitset.proofs.Tests.{decided}
-use Rattle.bitset.proofs.Bits.{has-setOf}
-use Rattle.semiautomata.specs.Semiautomaton.{Within}
+use lib.ListN.{length, replicate}
+use Rattle.bitset.specs.Sets.{any, size, least, has}
 use Rattle.semiautomata.specs.Predictability.{Lookahead}
 use Rattle.semiautomata.specs.Walks.{spells, step, possible, walkable}
 use Rattle.semiautomata.specs.PlainWalk.{limit}
-use Rattle.semiautomata.specs.Calls.{Reply, resolved, nothing}
+use Rattle.semiautomata.specs.Calls.{resolved, nothing}
 use Rattle.semiautomata.specs.Streaming.{base, sound, soleAt, settle, opened, feed}
 use Rattle.semiautomata.specs.Successors.{place}
-use Rattle.plan.specs.Bytes.{headerOf, parsed, meaning, reading, refusal, WellFormed}
-use Rattle.plan.specs.Loading.{Entered, Loaded}
-use Rattle.plan.proofs.Loading.{loaded}
-use Rattle.plan.proofs.Refusals.{well-formed-within}
+use Rattle.plan.specs.Bytes.{meaning, outcomeOfReading, reading, WellFormed}
 use Rattle.plan.specs.declared.Reading.the-variants.{Counts}
 use Rattle.table.specs.Table.{lookaheadOf, tableMeaning, unfit}
 use Rattle.prepare.specs.Preparing.{Tabled}
 use Rattle.prepare.proofs.Answers.{tabled}
 use Rattle.records.specs.Bytes.{tidy}
 use Rattle.predictor.specs.Calls.{openedOn, fedOn}
+use Rattle.demand.specs.Sample.{planA}
 use Rattle.demand.proofs.Rows.{rows-hold}
+use Rattle.demand.proofs.Sample.{is-loaded}
 use Rattle.text.specs.declared.Printed.the-variants.{Going, Ended}
 use Rattle.text.specs.declared.run.Stage.the-variants.{Plan, Letters}
 use Rattle.text.specs.Lines.{countsLine, lookaheadLine, refusedLine, resolutionLine, pasted, Appended}
-use Rattle.text.specs.Report.{noPlan, replyText, Reports}
+use Rattle.text.specs.Report.{noPlan}
 use Rattle.text.specs.Calls.{openOn, Begins, FeedsPart, unpredictable, opens}
 use Rattle.text.specs.Steps.{Runs, over, on, reads-on, begins, begins-last, feeds, finishes}
 use Rattle.text.specs.Theorems.{zeroTable, zeroRecord, sample, refusedSample}
@@ -41,7 +35,7 @@ use Rattle.text.proofs.Lines.{appended-long}
 use Rattle.text.proofs.Widths.{counts-width, lookahead-width, refused-width, resolution-width}
 use Rattle.text.proofs.Agreeing.{opened-goes}
 use Rattle.text.proofs.Beginning.{counted, never-counted, begun-well}
-use Rattle.text.proofs.Feeding.{Upto, upto-none, upto-next, upto-all}
+use Rattle.text.proofs.Feeding.{upto-none, upto-next, upto-all}
 
 -- bytes written at a place where there is room for them
 puts : (old : List ℕ) (at : ℕ) (text : List ℕ) → at + length text ≤ length old
@@ -64,49 +58,10 @@ abbrev A2 : List ℕ
 A2 = 0 ∷ 0 ∷ 0 ∷ 1 ∷ 1 ∷ 0 ∷ 1 ∷ 1 ∷ 0 ∷ 2 ∷ []
 
 abbrev A : List ℕ
-A = 1 ∷ 0 ∷ 3 ∷ 0 ∷ 1 ∷ 0 ∷ 1 ∷ 0 ∷ 3 ∷ 0 ∷ 16 ∷ 0 ∷ 17 ∷ 0 ∷ 26 ∷ 0 ∷ 0 ∷ 0 ∷ 0 ∷ 1 ∷ 1 ∷ 0 ∷ 1 ∷ 1 ∷ 0 ∷ 2 ∷ []
+A = planA
 
 w : WellFormed A
 w = rows-hold .0 .well-formed
-
-W : Within (meaning A)
-W = well-formed-within A w
-
--- its successor sets: {1}, {1, 2}, {}
-abbrev sets : List ℕ
-sets = 2 ∷ 6 ∷ 0 ∷ []
-
-edge-is : (q a t : ℕ) → has (setOf 3 (meaning A .edge q a)) t ≡ meaning A .edge q a t
-edge-is q a t = elim (decided (meaning A .edge q a t)) [
-  | inl e ↦ rw (has-setOf, e, lt-ltb t 3 (W .to-lt q a t e))
-  | inr e ↦ rw (has-setOf, e, and-false)
-]
-
-sets-are : (q a : ℕ) → q < 3 → a < 1 → getD sets (place 1 q a) 0 ≡ setOf 3 (meaning A .edge q a)
-unfolding setOf any
-sets-are zero zero h g = refl
-sets-are zero (suc a) h g = absurd (omega arith)
-sets-are (suc zero) zero h g = refl
-sets-are (suc zero) (suc a) h g = absurd (omega arith)
-sets-are (suc (suc zero)) zero h g = refl
-sets-are (suc (suc zero)) (suc a) h g = absurd (omega arith)
-sets-are (suc (suc (suc q))) a h g = absurd (omega arith)
-
-below : (j : ℕ) → j < 3 → getD sets j 0 < 2 ^ 3
-below zero h = omega arith
-below (suc zero) h = omega arith
-below (suc (suc zero)) h = omega arith
-below (suc (suc (suc j))) h = absurd (omega arith)
-
-entered : Entered (parsed A) 3 (0 ∷ 0 ∷ 0 ∷ []) sets
-entered = record { below = below; edges = λ q a t h g. rw (sets-are q a h g) (edge-is q a t); kept = refl }
-
-starts-are : 1 ≡ setOf 3 (meaning A .initial)
-unfolding setOf any
-starts-are = refl
-
-is-loaded : Loaded A (0 ∷ 0 ∷ 0 ∷ []) sets 1
-is-loaded = loaded A w (headerOf A) refl (omega arith) entered starts-are
 
 -- its table, and the record opened and after each letter
 abbrev table : List ℕ
@@ -143,7 +98,7 @@ fed3 : (resolved 2 1 ≡ fedOn table r3 0 .reply) × (r4 ≡ fedOn table r3 0 .s
 unfolding fedOn feed unfit tidy sound base limit settle soleAt walkable possible spells step any size least has
 fed3 = (refl, refl)
 
-is-read : Counts 3 1 1 3 ≡ reading A
+is-read : outcomeOfReading (Counts 3 1 1 3) ≡ reading A
 is-read = rw w
 
 is-plan : noPlan A ≡ false
@@ -218,7 +173,7 @@ B2 = 0 ∷ 0 ∷ 0 ∷ 0 ∷ 0 ∷ 0 ∷ 1 ∷ 1 ∷ 0 ∷ 1 ∷ []
 abbrev B : List ℕ
 B = 1 ∷ 0 ∷ 2 ∷ 0 ∷ 1 ∷ 0 ∷ 1 ∷ 0 ∷ 3 ∷ 0 ∷ 16 ∷ 0 ∷ 17 ∷ 0 ∷ 26 ∷ 0 ∷ 0 ∷ 0 ∷ 0 ∷ 0 ∷ 0 ∷ 0 ∷ 1 ∷ 1 ∷ 0 ∷ 1 ∷ []
 
-b-read : Counts 2 1 1 3 ≡ reading B
+b-read : outcomeOfReading (Counts 2 1 1 3) ≡ reading B
 b-read = rw (rows-hold .1 .0 .well-formed)
 
 b-plan : noPlan B ≡ false
