@@ -31,6 +31,8 @@ fn run(stdin: Stdio, stdout: Stdio) -> Output {
 /// What the program writes if each of its reads gets one piece: a read of a datagram takes it alone, and an empty one is an end.
 fn cut(pieces: Vec<Vec<u8>>) -> String {
     let (ours, its) = UnixDatagram::pair().expect("a pair of sockets");
+    // one that reads on after the end fails, and does not wait for ever
+    its.set_read_timeout(Some(Duration::from_secs(20))).expect("can be set");
     let writer = std::thread::spawn(move || {
         for piece in pieces {
             // it may have stopped reading, after a refusal
