@@ -126,9 +126,9 @@ static inline uint32_t gawherino_refusal(uint32_t answer)
 
 /* Bytes of stack that a call takes at most, measured by conformance/stack.sh and rounded up; the greatest of them. */
 #define GAWHERINO_STACK_READ 16640u
-#define GAWHERINO_STACK_PREPARE 70656u
-#define GAWHERINO_STACK_LOOK_AHEAD 70656u
-#define GAWHERINO_STACK_COUNT 74752u
+#define GAWHERINO_STACK_PREPARE 37888u
+#define GAWHERINO_STACK_LOOK_AHEAD 37888u
+#define GAWHERINO_STACK_COUNT 41984u
 #define GAWHERINO_STACK_CHECK 33280u
 #define GAWHERINO_STACK_WALK 256u
 #define GAWHERINO_STACK_JUDGE 512u
@@ -136,7 +136,7 @@ static inline uint32_t gawherino_refusal(uint32_t answer)
 #define GAWHERINO_STACK_FEED 256u
 #define GAWHERINO_STACK_FINISH 16384u
 #define GAWHERINO_STACK_GROUP 256u
-#define GAWHERINO_MAX_STACK 74752u
+#define GAWHERINO_MAX_STACK 41984u
 
 /* FORMS
  *
