@@ -80,6 +80,9 @@ run() {
     fi
 }
 
+# the tests that compare with the library, or with the report program
+comparing() { [ "$1" = calls ] && echo library || echo '\(random_plans_and_legs\|a_refused_leg_at_every_border\|a_million_legs_and_the_next\)'; }
+
 at_once=$(nproc 2>/dev/null || echo 1) going=1 tried=0 missed=0
 run 0 all >"$room/said.0" 2>&1 &
 for i in "${!names[@]}"; do
@@ -99,7 +102,8 @@ for i in "${!names[@]}"; do
     [ -f "$said" ] || continue
     tried=$((tried + 1))
     by=$(sed -n 's/^test \(.*\) \.\.\. FAILED/\1/p' "$said" | sort -u | tr '\n' ' ')
-    if [ -n "$by" ]; then
+    # a failure against what the documents write down needs no library: the comparison itself must fail
+    if grep -q "^test $(comparing "${kinds[i]}") \.\.\. FAILED" "$said"; then
         echo "caught  ${names[i]}: by $by"
     else
         missed=$((missed + 1))

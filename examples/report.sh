@@ -23,7 +23,7 @@ home=$(cd "$(dirname "$0")/.." && pwd) || exit 1
 case ${1-} in
     -h | --help) usage && exit ;;
 esac
-[ $# -le 1 ] || { usage >&2 && exit 2; }
+[ $# -le 1 ] || { usage >&2; exit 2; }
 
 # the input is opened first of all, so that what cannot be read is refused before anything is proved
 input=${1-$home/crates/report/stdin}
@@ -46,7 +46,8 @@ prove() (
 prove >&2 || fail "it could not be proved and built: 'rt check report' says why"
 
 # the program has no exit status: what it could not do is a line on its standard error
-"$home/target/bin/report" <&3 2>"$errors"
+# (a pipe that nobody reads any more is one that cannot be written: the signal is ignored, so that the program says so)
+(trap '' PIPE && exec "$home/target/bin/report") <&3 2>"$errors"
 status=$?
-[ ! -s "$errors" ] || { cat "$errors" >&2 && status=1; }
+[ ! -s "$errors" ] || { cat "$errors" >&2; status=1; }
 exit "$status"

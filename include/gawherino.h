@@ -2,16 +2,19 @@
  *
  * USE. The plan's bytes are in plan; the logger gives one code for each leg. No call allocates, so room is lent:
  *
- *     uint64_t table[GAWHERINO_MAX_TABLE];
+ *     uint64_t table[GAWHERINO_MAX_TABLE], sets[GAWHERINO_MAX_SETS];
  *     uint8_t letters[GAWHERINO_MAX_LETTERS], record[GAWHERINO_MAX_RECORD];
- *     uint32_t evidence[GAWHERINO_EVIDENCE], position[1], k, stake;
- *     k = gawherino_prepare(plan, plan_len, table, GAWHERINO_MAX_TABLE, letters, sizeof letters, evidence, GAWHERINO_EVIDENCE);
- *     if (GAWHERINO_IS_REFUSED(k)) return GAWHERINO_REFUSAL(k);
- *     stake = gawherino_open(table, GAWHERINO_MAX_TABLE, record, sizeof record, position, 1);
- *     while (!GAWHERINO_IS_REFUSED(stake)) {
- *         if (stake != GAWHERINO_NOTHING) printf("at %u stake %u\n", (unsigned)position[0], (unsigned)stake);
- *         stake = gawherino_feed(table, GAWHERINO_MAX_TABLE, record, sizeof record, next_code(), position, 1);
+ *     uint32_t evidence[GAWHERINO_EVIDENCE], position[1], code, answer;
+ *     answer = gawherino_prepare(plan, plan_len, table, GAWHERINO_MAX_TABLE, letters, sizeof letters, evidence, GAWHERINO_EVIDENCE);
+ *     if (!GAWHERINO_IS_REFUSED(answer)) answer = gawherino_open(table, GAWHERINO_MAX_TABLE, record, sizeof record, position, 1);
+ *     if (GAWHERINO_IS_REFUSED(answer)) return refused(GAWHERINO_REFUSAL(answer));
+ *     if (answer != GAWHERINO_NOTHING) booked(position[0], answer);
+ *     while (next_code(&code)) {
+ *         answer = gawherino_feed(table, GAWHERINO_MAX_TABLE, record, sizeof record, code, position, 1);
+ *         if (GAWHERINO_IS_REFUSED(answer)) refused(GAWHERINO_REFUSAL(answer)); // this code changed nothing, and the walk may go on
+ *         else if (answer != GAWHERINO_NOTHING) booked(position[0], answer);
  *     }
+ *     answer = gawherino_finish(table, GAWHERINO_MAX_TABLE, record, sizeof record, sets, GAWHERINO_MAX_SETS); // what is still open
  *
  * examples/c/walk.c is a whole program, and examples/c/restart.c keeps a walk across restarts.
  *
@@ -25,7 +28,7 @@
  * with the length 0 a pointer may be anything. No two slices that are lent to one call may overlap if one of them is written.
  *
  * STATE. No call keeps or shares anything beyond what it is lent, so any thread may call at any time, as long as no two calls at once are
- * lent the same slice and one of them writes it. Nothing is allocated. Of the C library memcpy, memmove and memset are called, and nothing
+ * lent slices that share an element which one of them writes. Nothing is allocated. Of the C library memcpy, memmove and memset are called, and nothing
  * else. How much stack each call takes is named below; with too little of it a call faults.
  */
 #ifndef GAWHERINO_H
@@ -38,7 +41,8 @@
 extern "C" {
 #endif
 
-/* The version of this header. A change of a call's parameters or of the table's form raises the first number, a further call the second. */
+/* The version of this header. A change of a call's parameters, of what it answers, or of the table's or the record's form raises the first
+ * number, a further call the second. */
 #define GAWHERINO_VERSION_MAJOR 1
 #define GAWHERINO_VERSION_MINOR 0
 #define GAWHERINO_VERSION_PATCH 0
@@ -124,7 +128,8 @@ static inline uint32_t gawherino_refusal(uint32_t answer)
 #define GAWHERINO_VERDICT_NONSELECTED 1 /* those for which it is a maximal nonselector */
 #define GAWHERINO_VERDICT 2
 
-/* Bytes of stack that a call takes at most, measured by conformance/stack.sh and rounded up; the greatest of them. */
+/* Bytes of stack that a call took at most where conformance/stack.sh measured it, rounded up; the greatest of them. Where memcpy, memmove or
+ * memset is bound at its first call, the dynamic linker's stack comes on top. */
 #define GAWHERINO_STACK_READ 16640u
 #define GAWHERINO_STACK_PREPARE 37888u
 #define GAWHERINO_STACK_LOOK_AHEAD 37888u

@@ -83,7 +83,8 @@ fn record_calls(r: &mut Random, table: &[u64], plan: &Plan, k: usize, rec: &[u8]
     let padding = r.bytes(8);
     rec.extend(padding);
     rec.truncate(length);
-    let letter = if r.percent(15) { random::stray_code(r, plan.m) } else { r.pick(&[r.clone().below(plan.m), plan.m - 1]) as u32 };
+    let (any, last) = (r.below(plan.m), plan.m - 1);
+    let letter = if r.percent(15) { random::stray_code(r, plan.m) } else { r.pick(&[any, last]) as u32 };
     let mut letters = vec![letter];
     // the leg that can be walked behind the held codes, if the record is sound
     if rec.len() >= 8 + k {
@@ -154,12 +155,8 @@ pub fn batch(r: &mut Random) -> Vec<Case> {
         let legs = random::offered(r, &legs, m);
         cases.push(Case::Session { plan: bytes.clone(), legs, extra: r.below(4) });
     }
-    let refusal = r.pick(&[
-        r.clone().below(20) as u32,
-        256 + r.clone().below(20) as u32,
-        65_536 + r.clone().below(20) as u32,
-        r.clone().next() as u32,
-    ]);
+    let (low, any) = (r.below(20) as u32, r.next() as u32);
+    let refusal = r.pick(&[low, 256 + low, 65_536 + low, any]);
     cases.push(Case::Group { refusal });
     let bound = n * (n - 1) / 2;
     let other = match r.below(3) {

@@ -141,4 +141,8 @@ walk = record {
 }
 
 pub sample : Sample
-sample = record { made = made; walk = walk; demand3 = booked planA 1 tableA made offered Nothing answers walk (λ r e. let z : _≡_ {A = ℕ} 0 1 = cc in absurd (omega arith)) }
+sample = record {
+  made = made;
+  walk = walk;
+  demand3 = booked planA 1 tableA made offered Nothing answers walk (λ r e. let z : _≡_ {A = ℕ} 0 1 = cc in absurd (omega arith));
+}

@@ -63,11 +63,13 @@ pub record Theorems (plan : List ℕ) (k : ℕ) (table : List ℕ) (made : Made 
 -- DEMAND 3, the whole of it, of one plan.
 pub record Demand (plan : List ℕ) : Type 0 where
   -- the count: lent buffers being long enough, it is refused as unpredictable exactly when no k exists; otherwise k is answered
-  pub counted : (a : Prepared) (old letters : List ℕ) → headerOf plan .n * headerOf plan .n ≤ length old → CountsTo plan a old letters → Right (meaning plan) a
+  pub counted : (a : Prepared) (old letters : List ℕ) → headerOf plan .n * headerOf plan .n ≤ length old → CountsTo plan a old letters
+      → Right (meaning plan) a
   pub prepared : (a : Prepared) (old table old′ letters : List ℕ) → setsFrom + headerOf plan .n * headerOf plan .m ≤ length old
       → headerOf plan .n * headerOf plan .n ≤ length old′ → Prepares plan a old table old′ letters → Right (meaning plan) a
   -- with a loop as evidence, to which the separate check says yes
-  pub evidence : (e : Evidence) (old letters : List ℕ) → Answers plan (Unpredictable e) old letters → (r : Checked) → Checks plan e letters r → r ≡ Yes
+  pub evidence : (e : Evidence) (old letters : List ℕ) → Answers plan (Unpredictable e) old letters
+      → (r : Checked) → Checks plan e letters r → r ≡ Yes
   -- the count never exceeds n (n - 1) / 2, or n - 1 where there is only one code
   pub bound : (k : ℕ) → Lookahead (meaning plan) k → k ≤ headerOf plan .n * (headerOf plan .n - 1) / 2
   pub bound-one-letter : headerOf plan .m ≡ 1 → (k : ℕ) → Lookahead (meaning plan) k → k ≤ headerOf plan .n - 1

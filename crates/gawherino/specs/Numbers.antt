@@ -7,8 +7,7 @@ use mathlib.Core.Path.{_≡_}
 use mathlib.Core.List.{List, [], _∷_, _++_}
 use lib.ListN.{length, drop}
 use Rattle.bitset.specs.Sets.{one-if}
-use Rattle.semiautomata.specs.Calls.{Check, lowest}
-use Rattle.semiautomata.specs.Calls.{Reply, resolved, nothing}
+use Rattle.semiautomata.specs.Calls.{Reply, resolved, nothing, Check, lowest}
 use Rattle.semiautomata.specs.Calls as reply
 use Rattle.semiautomata.specs.Outcomes.{Outcome, refused, answered}
 use Rattle.plan.specs.declared.Reading.{Reading}
