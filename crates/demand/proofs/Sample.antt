@@ -31,7 +31,7 @@ use Rattle.predictor.specs.declared.Answer.the-variants.{Refused, Resolved, Not
 use Rattle.predictor.specs.Calls.{openedOn, fedOn, Opens, Feeds}
 use Rattle.demand.specs.Demand.{Made, none, more, Walk}
 use Rattle.demand.specs.Sample.{planA, tableA, offered, answers, Sample}
-use Rattle.demand.proofs.Theorems.{booked}
+use Rattle.demand.proofs.Theorems.{walked-right}
 use Rattle.demand.proofs.Rows.{rows-hold}
 
 -- THE TABLE
@@ -144,5 +144,5 @@ pub sample : Sample
 sample = record {
   made = made;
   walk = walk;
-  demand3 = booked planA 1 tableA made offered Nothing answers walk (λ r e. let z : _≡_ {A = ℕ} 0 1 = cc in absurd (omega arith));
+  demand3 = walked-right planA 1 tableA made offered Nothing answers walk (λ r e. let z : _≡_ {A = ℕ} 0 1 = cc in absurd (omega arith));
 }

@@ -145,9 +145,9 @@ module _ (plan : List ℕ) (k : ℕ) (table : List ℕ) (made : Made plan k tabl
     never-14 = λ bytes letter a left f q. on-never-14 table (t .fit) (here .enough) bytes letter (sym (f .0) ∙ q);
   }
 
-  pub booked : (offered : List ℕ) (first : Answer) (answers : List Answer) → Walk table k offered first answers → Taken first
+  pub walked-right : (offered : List ℕ) (first : Answer) (answers : List Answer) → Walk table k offered first answers → Taken first
       → Demand3 (meaning plan) k offered (map said (first ∷ answers))
-  booked offered first answers w taken =
+  walked-right offered first answers w taken =
       let (s, e) = started (w .bytes) first (w .left) (w .room) (w .opening) taken in
       rw (t .means, t .k-is) at (on-demand3 table (t .fit) (here .enough) s (same s ∙ e) here offered first answers (rw (t .k-is) w))
 
@@ -161,5 +161,5 @@ demand plan w =
       evidence = p .evidence-passes;
       bound = lookahead-bound (meaning plan) W;
       bound-one-letter = λ one. lookahead-bound-one (meaning plan) W one;
-      booked = booked plan;
+      walked-right = walked-right plan;
     }

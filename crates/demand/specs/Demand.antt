@@ -74,7 +74,7 @@ pub record Demand (plan : List ℕ) : Type 0 where
   pub bound : (k : ℕ) → Lookahead (meaning plan) k → k ≤ headerOf plan .n * (headerOf plan .n - 1) / 2
   pub bound-one-letter : headerOf plan .m ≡ 1 → (k : ℕ) → Lookahead (meaning plan) k → k ≤ headerOf plan .n - 1
   -- the bookings: of every list of letters offered to a walk freshly opened, and not refused, on the plan so prepared
-  pub booked : (k : ℕ) (table : List ℕ) → Made plan k table → (offered : List ℕ) (first : Answer) (answers : List Answer)
+  pub walked-right : (k : ℕ) (table : List ℕ) → Made plan k table → (offered : List ℕ) (first : Answer) (answers : List Answer)
       → Walk table k offered first answers → Taken first → Demand3 (meaning plan) k offered (map said (first ∷ answers))
 
 -- It holds of every well-formed plan.
