@@ -11,7 +11,8 @@ use lib.Dec.{lit<, eqb, ltb, eqb·zero-suc, eqb·suc-zero, eqb·suc-suc, leb·ze
 use lib.Bits.{bitAnd, bitOr, bitXor, differ, and-step, or-step, xor-step, and-le-l, and-mask, mask-lt}
 use lib.Pow.{pow-pos, pow-mono, pow-lt, ones-lt, shr-shr, shl-exact}
 use borrow.Author.Tests.{lt-ltb}
-use Rattle.bitset.specs.Sets.{any, one-if, single, has, setOf}
+use Rattle.bitset.specs.Sets.{any, one-if, single}
+use Rattle.bitset.specs.Numbers.{has, setOf}
 use Rattle.bitset.proofs.Tests.{decided}
 use Rattle.bitset.proofs.Below.{any-none, any-not}
 

@@ -9,7 +9,8 @@ use lib.Dec.{eqb, eqb·zero-suc, eqb·suc-suc}
 use lib.Arith.{lt-one}
 use lib.Bits.{bitAnd, and-le-r}
 use lib.Count.{ones, ones-step, trailingZeros, under}
-use Rattle.bitset.specs.Sets.{one-if, size, least, has}
+use Rattle.bitset.specs.Sets.{one-if, size, least}
+use Rattle.bitset.specs.Numbers.{has}
 use Rattle.bitset.proofs.Tests.{decided}
 use Rattle.bitset.proofs.Below.{size-low, size-cong, size-without, Sole, sole-size, size-sole, least-sole, Least, least-any}
 use Rattle.bitset.proofs.Bits.{has-suc, low, low-is, has-and, has-lt, some-member, and-fits}

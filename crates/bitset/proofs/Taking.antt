@@ -10,7 +10,8 @@ use lib.Bits.{bitAnd, bitOr}
 use lib.Count.{ones, ones-le, ones-ones, trailingZeros}
 use lib.Pow.{pow-mono}
 use borrow.Author.Tests.{eqb-true}
-use Rattle.bitset.specs.Sets.{any, size, has, setOf}
+use Rattle.bitset.specs.Sets.{any, size}
+use Rattle.bitset.specs.Numbers.{has, setOf}
 use Rattle.bitset.proofs.Tests.{and-in, and-out}
 use Rattle.bitset.proofs.Below.{any-in, any-none, any-cong, any-add}
 use Rattle.bitset.proofs.Bits.{has-or, has-empty, has-high, has-lt, fits, has-insert, is-setOf, and-fits}

@@ -1,6 +1,6 @@
--- Sets of states. A set is a test on numbers; document 01 writes it as a 64-bit number, bit s for stake s.
+-- Sets of states as tests on numbers.
 -- Assumes nothing.
-use Prim.Native.Nat.{ℕ, zero, suc, _+_, _*_, _/_, _%_, _^_}
+use Prim.Native.Nat.{ℕ, zero, suc, _+_}
 use mathlib.Core.Bool.{Bool, true, false, cond, _||_}
 use lib.Dec.{eqb}
 
@@ -27,12 +27,3 @@ least (suc n) p = cond (p 0) 0 (suc (least n (λ x. p (suc x))))
 -- the set of s alone
 abbrev pub single : ℕ → ℕ → Bool
 single s t = eqb s t
-
--- s is a member of the set that a number stands for: bit s of it is 1
-unfoldable pub has : ℕ → ℕ → Bool
-has set s = eqb (set / 2 ^ s % 2) 1
-
--- the number that stands for the set of those below n that are in p
-unfoldable pub setOf : ℕ → (ℕ → Bool) → ℕ
-setOf zero p = 0
-setOf (suc n) p = setOf n p + one-if (p n) * 2 ^ n

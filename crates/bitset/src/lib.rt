@@ -3,7 +3,8 @@
 // Here are the three that need care with numbers of 64 and more, which no set contains.
 ghost use mathlib.Core.Path.{_≡_};
 ghost use lib.Dec.{ltb};
-ghost use Rattle.bitset.specs.Sets.{has, setOf, single};
+ghost use Rattle.bitset.specs.Sets.{single};
+ghost use Rattle.bitset.specs.Numbers.{has, setOf};
 
 // All states below n; all 64 where n is 64 or more.
 pub fn mask(n: u32) -> u64

@@ -13,7 +13,8 @@ use lib.ListN.{length, getD, take, drop, length-drop}
 use lib.Pow.{pow-lt}
 use lib.Seq.{length-take-le, getD-take, getD-drop, take-add}
 use borrow.Author.Tests.{lt-ltb, le-ltb, ltb-false, lt-leb, leb-true, leb-false, eq-eqb, ne-eqb, eqb-true, eqb-false, not-false}
-use Rattle.bitset.specs.Sets.{any, single, has, setOf}
+use Rattle.bitset.specs.Sets.{any, single}
+use Rattle.bitset.specs.Numbers.{has, setOf}
 use Rattle.bitset.proofs.Tests.{and-in, and-out, or-cases, decided}
 use Rattle.bitset.proofs.Below.{any-in, any-not, with-any}
 use Rattle.bitset.proofs.Bits.{has-empty, has-lt, setOf-lt, has-setOf, is-setOf, setOf-has, pow-setOf, has-shl, meets-none, meets-some}

@@ -6,10 +6,10 @@ use mathlib.Core.Option.{some, none}
 use mathlib.Core.Logic.{_↔_}
 use mathlib.Core.Path.{_≡_}
 use mathlib.Core.List.{List}
-use Rattle.bitset.specs.Sets.{has, setOf}
+use Rattle.bitset.specs.Numbers.{has, setOf}
 use Rattle.semiautomata.specs.Semiautomaton.{Semiautomaton, Path}
 use Rattle.semiautomata.specs.Predictability.{Critical, member, named, Lasso}
-use Rattle.semiautomata.specs.Outcomes.{Outcome, refused, answered, Gives}
+use Rattle.refusals.specs.Outcomes.{Outcome, refused, answered, Gives}
 use Rattle.plan.specs.Bytes.{meaning, refusal}
 use Rattle.lookahead.specs.declared.Evidence.{Evidence}
 use Rattle.lookahead.specs.Answers.{TrueOf}

@@ -10,7 +10,8 @@ use native.Mathlib.Omega.{arith}
 use lib.Dec.{eqb, ltb}
 use lib.ListN.{length, getD, take}
 use borrow.Author.Tests.{eqb-true, le-ltb, not-true}
-use Rattle.bitset.specs.Sets.{any, size, setOf}
+use Rattle.bitset.specs.Sets.{any, size}
+use Rattle.bitset.specs.Numbers.{setOf}
 use Rattle.bitset.proofs.Tests.{not-so}
 use Rattle.bitset.proofs.Below.{any-in, any-not}
 use Rattle.semiautomata.specs.Semiautomaton.{Semiautomaton, Within}
@@ -18,7 +19,7 @@ use Rattle.semiautomata.specs.Predictability.{fork, member, named}
 use Rattle.semiautomata.specs.Walks.{Longest, PossibleAt, spells, step, possible, walkable, greatest, longest}
 use Rattle.semiautomata.specs.Selectors.{selector, minimalSelector, maximalNonselector}
 use Rattle.semiautomata.specs.Levels.{live, clashIn, clash}
-use Rattle.semiautomata.specs.Outcomes.{Outcome, refused, answered}
+use Rattle.refusals.specs.Outcomes.{Outcome, refused, answered}
 use Rattle.semiautomata.proofs.Levels.{with-and}
 use Rattle.semiautomata.proofs.Shares.{lookahead-unique, lookahead-predicts}
 use Rattle.semiautomata.proofs.Decide.{clash-out, clash-in, some-shorter, lookahead-first, some-witness, witness-unpredictable}

@@ -8,7 +8,8 @@ use mathlib.Core.List.{List, [], _∷_}
 use native.Mathlib.Omega.{arith}
 use lib.ListN.{length, getD}
 use borrow.Author.Tests.{lt-ltb}
-use Rattle.bitset.specs.Sets.{any, size, least, has, setOf}
+use Rattle.bitset.specs.Sets.{any, size, least}
+use Rattle.bitset.specs.Numbers.{has, setOf}
 use Rattle.bitset.proofs.Tests.{decided}
 use Rattle.bitset.proofs.Bits.{has-setOf}
 use Rattle.semiautomata.specs.Semiautomaton.{Within}

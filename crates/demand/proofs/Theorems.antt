@@ -13,7 +13,8 @@ use Rattle.bitset.proofs.Tests.{decided, not-so}
 use Rattle.bitset.proofs.Below.{any-in, with-any}
 use Rattle.semiautomata.specs.Semiautomaton.{Semiautomaton, Within}
 use Rattle.semiautomata.specs.Predictability.{Predictable, Lookahead}
-use Rattle.semiautomata.specs.Calls.{Reply, refused, resolved, nothing, Result, Check}
+use Rattle.semiautomata.specs.Calls.{Reply, refused, resolved, nothing, Result}
+use Rattle.refusals.specs.Checks.{Check}
 use Rattle.semiautomata.specs.Demand3.{Demand3}
 use Rattle.semiautomata.specs.Streaming.{opened, feed, streamed}
 use Rattle.semiautomata.proofs.Calls.{Among, Course, refuses, passes, course}

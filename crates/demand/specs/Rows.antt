@@ -10,7 +10,7 @@ use lib.ListN.{length, getD}
 use Rattle.semiautomata.specs.Semiautomaton.{Semiautomaton}
 use Rattle.semiautomata.specs.Predictability.{Lookahead, Unpredictable}
 use Rattle.semiautomata.specs.Calls as reply
-use Rattle.semiautomata.specs.Outcomes.{refused, answered}
+use Rattle.refusals.specs.Outcomes.{refused, answered}
 use Rattle.plan.specs.Bytes.{headerOf, meaning, WellFormed}
 use Rattle.table.specs.Table.{setsFrom}
 use Rattle.prepare.specs.declared.Prepared.{Prepared}

@@ -12,9 +12,11 @@ use lib.ListN.{length}
 use Rattle.bitset.specs.Sets.{any, one-if}
 use Rattle.bitset.proofs.Tests.{decided}
 use Rattle.semiautomata.specs.Semiautomaton.{Semiautomaton}
-use Rattle.semiautomata.specs.Calls.{Reply, refused, resolved, nothing, Result, Check, checked, lowest}
-use Rattle.semiautomata.specs.Streaming.{base, soleAt, resolve, settle, settled, unopened, opened, feedChecks, feed}
-use Rattle.semiautomata.proofs.Lowest.{Numbered, lowest-le}
+use Rattle.semiautomata.specs.Calls.{Reply, refused, resolved, nothing, Result, checked}
+use Rattle.refusals.specs.Checks.{Check, firstOf}
+use Rattle.semiautomata.specs.Streaming.{base, soleAt, resolve, settle, settled, unopened, openChecks, opened, feedChecks, feed}
+use Rattle.refusals.proofs.First.{Numbered, first-le, first-both, numbered-both, passed-first}
+use Rattle.semiautomata.proofs.Calls.{Course, refuses as refuses-by, passes, course, among-numbered}
 use Rattle.semiautomata.proofs.Streaming.{at-sole}
 use Rattle.plan.specs.Bytes.{planChecks, refusal, outcomeOfReading, reading}
 use Rattle.plan.specs.declared.Reading.{Reading}
@@ -44,7 +46,7 @@ use Rattle.predictor.specs.declared.Answer.the-variants as answer
 use Rattle.predictor.specs.Replies.{said}
 use Rattle.predictor.specs.declared.Ended.{Ended}
 use Rattle.predictor.specs.declared.Ended.the-variants as ended
-use Rattle.predictor.specs.Calls.{tableCheck, recordCheck, tidyCheck, onto, openedOn, fedOn, Opens, Feeds, endChecks, endRefusal, Ends}
+use Rattle.predictor.specs.Calls.{tableCheck, recordCheck, tidyCheck, lentChecks, bytesChecks, onto, openedOn, fedOn, Opens, Feeds, endChecks, endRefusal, Ends}
 use Rattle.records.specs.Bytes.{decode}
 use Rattle.gawherino.specs.Numbers.{Numbers, refusing, ofReading, ofPrepared, ofChecked, ofWalked, ofJudged, ofAnswer, ofEnded, PassesOn, answers, refuses}
 use Rattle.gawherino.specs.Theorems.{Number, value, refusal as refusal-number}
@@ -52,37 +54,29 @@ use Rattle.gawherino.proofs.Endings.{few-ended}
 
 -- CHECKS IN ORDER
 
-pub refused-number : (cs : List Check) → Numbered 15 cs → {r : ℕ} → r ≡ lowest cs → ¬ (r ≡ 0) → Number (refusing r)
-refused-number cs n {r} e z = let h = lowest-le 15 cs n in refusal-number r (omega (arith, z)) (omega (arith, h, e)) refl
+pub refused-number : (cs : List Check) → Numbered 15 cs → {r : ℕ} → r ≡ firstOf cs → ¬ (r ≡ 0) → Number (refusing r)
+refused-number cs n {r} e z = let h = first-le 15 cs n in refusal-number r (omega (arith, z)) (omega (arith, h, e)) refl
 
 -- for want of room some refusal is given
-no-room : (cs : List Check) → Numbered 15 cs → (1 ≤ lowest (cs ++ short true)) × (lowest (cs ++ short true) ≤ 15)
-no-room [] _ = (omega arith, omega arith)
-no-room (c ∷ cs) (l, h, n) = go (decided (c .applies)) (no-room cs n)
-  where
-    go : (c .applies ≡ true) ⊎ (c .applies ≡ false) → (1 ≤ lowest (cs ++ short true)) × (lowest (cs ++ short true) ≤ 15)
-        → (1 ≤ lowest (c ∷ (cs ++ short true))) × (lowest (c ∷ (cs ++ short true)) ≤ 15)
-    go (inl a) ih = rw a (l, h)
-    go (inr a) ih = rw a ih
+no-room : (cs : List Check) → Numbered 15 cs → (1 ≤ firstOf (cs ++ short true)) × (firstOf (cs ++ short true) ≤ 15)
+no-room cs n =
+    let z : ¬ (firstOf (cs ++ short true) ≡ 0) = λ z. let (_, nine) = first-both 15 cs (short true) n .0 z in absurd (omega (arith, nine)) in
+    (omega (arith, z), first-le 15 (cs ++ short true) (numbered-both 15 cs (short true) n refl))
 
 pub gives-number : {A : Type 0} {numbers : A → Numbers} {room : ℕ} {before : List Check} {Meets : A → Type 0} {Kept : Type 0} {r : ℕ} {old more : List ℕ}
     → Numbered 15 before → ((a : A) → Meets a → Number (numbers a .first)) → PassesOn numbers room before Meets Kept r old more → Number r
 gives-number n f (answers _ a m p) = rw (p .answered) (f a m)
 gives-number {before = before} n f (refuses _ e _ _) = let (l, h) = no-room before n in refusal-number _ l h e
 
-pub plan-and-more : (plan : List ℕ) (more : List Check) → Numbered 15 more → Numbered 15 (planChecks plan ++ more)
-plan-and-more plan more n =
-    (omega arith, omega arith, (omega arith, omega arith, (omega arith, omega arith, (omega arith, omega arith, (omega arith, omega arith, (omega arith, omega arith, (omega arith, omega arith, n)))))))
-
 -- ANSWERS ABOUT A PLAN
 
 module _ (plan : List ℕ) where
   pub unread-number : {r : ℕ} → r ≡ refusal plan → ¬ (r ≡ 0) → Number (refusing r)
   unfolding refusal
-  unread-number = refused-number (planChecks plan) (plan-and-more plan [] tt)
+  unread-number = refused-number (planChecks plan) refl
 
-  short-number : (b : Bool) {r : ℕ} → r ≡ lowest (planChecks plan ++ short b) → ¬ (r ≡ 0) → Number (refusing r)
-  short-number b = refused-number (planChecks plan ++ short b) (plan-and-more plan (short b) (omega arith, omega arith, tt))
+  short-number : (b : Bool) {r : ℕ} → r ≡ firstOf (planChecks plan ++ short b) → ¬ (r ≡ 0) → Number (refusing r)
+  short-number b = refused-number (planChecks plan ++ short b) refl
 
   pub reading-number : (a : Reading) → outcomeOfReading a ≡ reading plan → Number (ofReading a .first)
   reading-number (read.Counts n m p e) d =
@@ -116,7 +110,7 @@ pub walked-number : (table word old out : List ℕ) (a : Walked) → Walks table
 unfolding walkRefusal
 walked-number table word old out (walked.Upto g) _ = value (omega arith)
 walked-number table word old out (walked.Refused r) (e, z, _) =
-    refused-number (walkChecks table word (length old)) (omega arith, omega arith, (omega arith, omega arith, (omega arith, omega arith, (omega arith, omega arith, tt)))) e z
+    refused-number (walkChecks table word (length old)) refl e z
 
 pub judged-number : (table : List ℕ) (q a : ℕ) (word : List ℕ) (j : Judged) → Judges table q a word j → Number (ofJudged j .first)
 unfolding verdictRefusal
@@ -125,13 +119,13 @@ judged-number table q a word (judged.Told v) _ = value (bit (v .minimal))
     bit : (b : Bool) → one-if b < 65536
     bit true = omega arith
     bit false = omega arith
-judged-number table q a word (judged.Refused r) (e, z, _) = refused-number (verdictChecks table q a word) (omega arith, omega arith, (omega arith, omega arith, tt)) e z
+judged-number table q a word (judged.Refused r) (e, z, _) = refused-number (verdictChecks table q a word) refl e z
 
 pub ended-number : (table bytes old out : List ℕ) (a : Ended) → Ends table bytes a old out → Number (ofEnded a .first)
 unfolding endRefusal
 ended-number table bytes old out (ended.Open c) (e, (is, _)) = let h = few-ended table bytes (length old) e in value (omega arith)
 ended-number table bytes old out (ended.Refused r) (e, z, _) =
-    refused-number (endChecks table bytes (length old)) (omega arith, omega arith, (omega arith, omega arith, (omega arith, omega arith, (omega arith, omega arith, tt)))) e z
+    refused-number (endChecks table bytes (length old)) refl e z
 
 -- REPLIES
 
@@ -147,14 +141,13 @@ answer-number n answer.Nothing _ = value (omega arith)
 answer-number n (answer.Refused r) (l, h) = refusal-number r l h refl
 
 -- the first check that applies, or what is given where none does
-checked-small : (n : ℕ) (A : Type 0) (cs : List Check) (state : A) (done : Result A) → Numbered 15 cs → (lowest cs ≡ 0 → Small n (done .reply)) → Small n (checked cs state done .reply)
-checked-small n A [] state done _ f = f refl
-checked-small n A (c ∷ cs) state done (l, h, m) f = go (decided (c .applies)) (checked-small n A cs state done m)
+checked-small : (n : ℕ) (A : Type 0) (cs : List Check) (state : A) (done : Result A) → Numbered 15 cs
+    → (firstOf cs ≡ 0 → Small n (done .reply)) → Small n (checked cs state done .reply)
+checked-small n A cs state done m f = go (checked cs state done) (course cs state done)
   where
-    go : (c .applies ≡ true) ⊎ (c .applies ≡ false) → ((lowest cs ≡ 0 → Small n (done .reply)) → Small n (checked cs state done .reply))
-        → Small n (checked (c ∷ cs) state done .reply)
-    go (inl a) ih = rw a (l, h)
-    go (inr a) ih = rw a (ih (λ z. f (rw a z)))
+    go : (s : Result A) → Course cs state done s → Small n (s .reply)
+    go s (refuses-by r a) = among-numbered 15 r cs m a
+    go s (passes p) = f (passed-first cs p)
 
 settle-small : (S : Semiautomaton) → S .n ≤ 64 → (k : ℕ) (X : ℕ → Bool) (fed : ℕ) (w : List ℕ) → Small (S .n) (settle S k X fed w)
 unfolding settle
@@ -179,7 +172,7 @@ module _ (table bytes : List ℕ) where
   n = statesOf table
 
   -- where 8 does not apply
-  settled-small : (cs : List Check) → lowest (tableCheck table ∷ cs) ≡ 0 → (X : ℕ → Bool) (fed : ℕ) (w : List ℕ) → Small n (settle S k X fed w)
+  settled-small : (cs : List Check) → firstOf (tableCheck table ∷ cs) ≡ 0 → (X : ℕ → Bool) (fed : ℕ) (w : List ℕ) → Small n (settle S k X fed w)
   settled-small cs e = elim (decided (unfit table)) [
     | inl u ↦ let z : _≡_ {A = ℕ} 8 0 = rw u at e in absurd (omega arith)
     | inr u ↦ settle-small S (fitting table u .states) k
@@ -188,8 +181,8 @@ module _ (table bytes : List ℕ) where
   pub opened-small : (a : Answer) (left : List ℕ) → Opens table bytes a left → Small n (said a)
   unfolding openedOn opened
   opened-small a left (e, _) = subst (Small n) (sym e)
-      (checked-small n _ (tableCheck table ∷ recordCheck table bytes ∷ []) bytes (onto k bytes (opened S k)) (omega arith, omega arith, (omega arith, omega arith, tt)) λ z.
-      checked-small n _ (record { number = 13; applies = not (any (S .n) (S .initial)) } ∷ []) unopened (settled S k (S .initial) unopened 0 []) (omega arith, omega arith, tt) λ _.
+      (checked-small n _ (lentChecks table bytes) bytes (onto k bytes (opened S k)) refl λ z.
+      checked-small n _ (openChecks S) unopened (settled S k (S .initial) unopened 0 []) refl λ _.
       settled-small (recordCheck table bytes ∷ []) z (S .initial) 0 [])
 
   pub fed-small : (letter : ℕ) (a : Answer) (left : List ℕ) → Feeds table bytes letter a left → Small n (said a)
@@ -198,10 +191,8 @@ module _ (table bytes : List ℕ) where
       let r = decode bytes in
       let w = r .held ++ (letter ∷ []) in
       subst (Small n) (sym e)
-      (checked-small n _ (tableCheck table ∷ recordCheck table bytes ∷ tidyCheck table bytes ∷ []) bytes (onto k bytes (feed S k r letter))
-      (omega arith, omega arith, (omega arith, omega arith, (omega arith, omega arith, tt))) λ z.
-      checked-small n _ (feedChecks S k r letter) r (settled S k (base S k r) r (suc (r .fed)) w)
-      (omega arith, omega arith, (omega arith, omega arith, (omega arith, omega arith, (omega arith, omega arith, tt)))) λ _.
+      (checked-small n _ (bytesChecks table bytes) bytes (onto k bytes (feed S k r letter)) refl λ z.
+      checked-small n _ (feedChecks S k r letter) r (settled S k (base S k r) r (suc (r .fed)) w) refl λ _.
       settled-small (recordCheck table bytes ∷ tidyCheck table bytes ∷ []) z (base S k r) (suc (r .fed)) w)
 
   pub opened-number : (a : Answer) (left : List ℕ) → Opens table bytes a left → Number (ofAnswer a .first)

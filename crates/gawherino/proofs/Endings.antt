@@ -9,7 +9,7 @@ use native.Mathlib.Omega.{arith}
 use lib.Dec.{leb}
 use lib.ListN.{length, length-map}
 use borrow.Author.Tests.{leb-false}
-use Rattle.bitset.specs.Sets.{setOf}
+use Rattle.bitset.specs.Numbers.{setOf}
 use Rattle.bitset.proofs.Tests.{decided}
 use Rattle.semiautomata.specs.Demand3.{followed, range, collect}
 use Rattle.semiautomata.specs.Walks.{possible}

@@ -8,8 +8,8 @@ use native.Mathlib.Omega.{arith}
 use lib.ListN.{length, drop, set}
 use mir.Val.{boolByte}
 use Rattle.bitset.specs.Sets.{one-if}
-use Rattle.semiautomata.specs.Outcomes.{refused, answered}
-use Rattle.semiautomata.proofs.Lowest.{lowest-zero, lowest-first}
+use Rattle.refusals.specs.Outcomes.{refused, answered}
+use Rattle.refusals.proofs.First.{first-behind, first-before}
 use Rattle.plan.specs.Bytes.{planChecks, refusal, PlanCounts, reading}
 use Rattle.prepare.specs.Preparing.{short}
 use Rattle.plan.proofs.Readings.{reading-refused, reading-well}
@@ -22,11 +22,11 @@ module _ (plan : List ℕ) where
   unfolding refusal
   no-room-refused e =
       let (a, n) = reading-refused plan e in
-      ap refusing (a ∙ sym (lowest-first (planChecks plan) (short true) (λ z. n (a ∙ z))))
+      ap refusing (a ∙ sym (first-before (planChecks plan) (short true) (λ z. n (a ∙ z))))
 
   pub no-room-read : {c : PlanCounts} → answered c ≡ reading plan → refusing 9 ≡ noRoom (planChecks plan)
   unfolding refusal
-  no-room-read e = ap refusing (sym (lowest-zero 7 (planChecks plan) (short true) (plan-numbered plan) (reading-well plan e .0)))
+  no-room-read e = ap refusing (sym (first-behind 7 (planChecks plan) (short true) (plan-numbered plan) (reading-well plan e .0)))
 
 module _ (old : List ℕ) (a : ℕ) where
   pub stored-one : 1 ≤ length old → set old 0 a ≡ (a ∷ []) ++ drop 1 old

@@ -5,14 +5,14 @@ use mathlib.Core.Path.{refl}
 use mathlib.Core.Logic.{inl, inr}
 use mathlib.Core.List.{List, []}
 use native.Mathlib.Omega.{arith}
-use Rattle.semiautomata.specs.Outcomes.{Outcome, refused, answered}
+use Rattle.refusals.specs.Outcomes.{Outcome, refused, answered}
 use Rattle.plan.specs.Bytes.{meaning, refusal}
 use Rattle.prepare.specs.Preparing.{LooksAhead, asNumber, Draws}
 use Rattle.prepare.proofs.Answers.{small}
 use Rattle.predictor.specs.declared.Answer.the-variants.{Resolved}
 use Rattle.gawherino.specs.Promises.{claimOf}
 use Rattle.gawherino.specs.Theorems.{Number, value, refusal as refusal-number, Theorems}
-use Rattle.gawherino.proofs.Answering.{gives-number, plan-and-more, unread-number, reading-number, prepared-number, counted-number, checked-number, walked-number, judged-number, opened-small, fed-small, opened-number, fed-number, ended-number}
+use Rattle.gawherino.proofs.Answering.{gives-number, unread-number, reading-number, prepared-number, counted-number, checked-number, walked-number, judged-number, opened-small, fed-small, opened-number, fed-number, ended-number}
 
 drawn : (plan : List ℕ) {r : ℕ} → Draws plan r → Number r
 drawn plan d = rw (d .is) (go (d .outcome) (d .looks-ahead))
@@ -24,15 +24,15 @@ drawn plan d = rw (d .is) (go (d .outcome) (d .looks-ahead))
 
 pub theorems : (r : ℕ) → Theorems r
 theorems r = record {
-  reading = λ plan old counts. gives-number (plan-and-more plan [] tt) (reading-number plan);
-  preparing = λ plan old table old′ letters old″ evidence. gives-number (plan-and-more plan [] tt) (prepared-number plan old table old′ letters);
-  counting = λ plan old letters old′ evidence. gives-number (plan-and-more plan [] tt) (counted-number plan old letters);
+  reading = λ plan old counts. gives-number refl (reading-number plan);
+  preparing = λ plan old table old′ letters old″ evidence. gives-number refl (prepared-number plan old table old′ letters);
+  counting = λ plan old letters old′ evidence. gives-number refl (counted-number plan old letters);
   drawing = λ plan. drawn plan;
   checking = λ plan claim letters p. rw (p .passed .answered) (checked-number plan (claimOf claim) letters (p .answer) (p .meets));
-  walking = λ table word old sets old′ length. gives-number (omega arith, omega arith, tt) (walked-number table word old sets);
-  judging = λ table state letter word old sets. gives-number (omega arith, omega arith, tt) (judged-number table state letter word);
-  opening = λ table old bytes old′ position. gives-number (omega arith, omega arith, tt) (λ a. opened-number table old a bytes);
-  feeding = λ table letter old bytes old′ position. gives-number (omega arith, omega arith, tt) (λ a. fed-number table old letter a bytes);
+  walking = λ table word old sets old′ length. gives-number refl (walked-number table word old sets);
+  judging = λ table state letter word old sets. gives-number refl (judged-number table state letter word);
+  opening = λ table old bytes old′ position. gives-number refl (λ a. opened-number table old a bytes);
+  feeding = λ table letter old bytes old′ position. gives-number refl (λ a. fed-number table old letter a bytes);
   ending = λ table bytes old sets p. rw (p .passed .answered) (ended-number table bytes old sets (p .answer) (p .meets));
   opened-below = λ table bytes i x. opened-small table bytes (Resolved i x);
   fed-below = λ table bytes letter i x. fed-small table bytes letter (Resolved i x);

@@ -7,13 +7,14 @@ use mathlib.Core.Path.{_≡_}
 use mathlib.Core.List.{List, [], _∷_, _++_}
 use lib.ListN.{length, drop}
 use Rattle.bitset.specs.Sets.{one-if}
-use Rattle.semiautomata.specs.Calls.{Reply, resolved, nothing, Check, lowest}
+use Rattle.semiautomata.specs.Calls.{Reply, resolved, nothing}
+use Rattle.refusals.specs.Checks.{Check, firstOf}
 use Rattle.semiautomata.specs.Calls as reply
-use Rattle.semiautomata.specs.Outcomes.{Outcome, refused, answered}
+use Rattle.refusals.specs.Outcomes.{Outcome, refused, answered}
 use Rattle.plan.specs.declared.Reading.{Reading}
 use Rattle.plan.specs.Bytes.{outcomeOfReading}
-use Rattle.plan.specs.declared.group.Group.{Group}
-use Rattle.plan.specs.declared.group.Group.the-variants.{Author, Caller, Logger, Nobody}
+use Rattle.refusals.specs.declared.Group.{Group}
+use Rattle.refusals.specs.declared.Group.the-variants.{Author, Caller, Logger, Nobody}
 use Rattle.prepare.specs.declared.Prepared.{Prepared}
 use Rattle.prepare.specs.declared.Prepared.the-variants.{Ready, Refused, Unpredictable}
 use Rattle.claim.specs.declared.Checked.{Checked}
@@ -96,9 +97,9 @@ pub record Passed (a : Numbers) (r : ℕ) (old more : List ℕ) : Type 0 where
   pub answered : r ≡ a .first
   pub written : more ≡ a .further ++ drop (length (a .further)) old
 
--- Refused for want of room for further values: the lowest refusal that applies of those before 9, or 9.
+-- Refused for want of room for further values: the first refusal that applies of those before 9, or 9.
 abbrev pub noRoom : List Check → ℕ
-noRoom before = refusing (lowest (before ++ short true))
+noRoom before = refusing (firstOf (before ++ short true))
 
 -- What a call gives that may have so many further values: with room for them the numbers of an answer that meets the promise of the
 -- call it stands for; else it is refused, and all that it is lent is kept.

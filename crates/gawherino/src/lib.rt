@@ -6,7 +6,7 @@ ghost use mathlib.Core.List.{[], _∷_, _++_};
 ghost use Prim.Native.Nat.{_≤_};
 ghost use lib.ListN.{length, getD, drop};
 ghost use Rattle.plan.specs.Bytes.{planChecks};
-ghost use Rattle.plan.specs.Groups.{groupOf};
+ghost use Rattle.refusals.specs.Groups.{groupOf};
 ghost use Rattle.prepare.specs.Preparing.{Draws};
 ghost use Rattle.predictor.specs.Calls.{tableCheck};
 ghost use Rattle.gawherino.specs.Numbers.{ofPrepared, ofAnswer, Fit32, Passed, noRoom, groupNumber};
@@ -14,10 +14,10 @@ ghost use Rattle.gawherino.specs.Promises.{claimOf, PassesReading, Passe
 use claim::Checked;
 use lookahead::Evidence;
 use plan::Reading;
-use plan::group::Group;
 use predictor::Answer;
 use predictor::Ended;
 use prepare::Prepared;
+use refusals::Group;
 use simulate::Judged;
 use simulate::Walked;
 
@@ -300,7 +300,7 @@ pub extern "C" fn gawherino_group(refusal: u32) -> u32
     if refusal > 255 {
         return 0;
     }
-    let group = plan::group::group_of(refusal as u8);
+    let group = refusals::group_of(refusal as u8);
     match group {
         Group::Author => 1,
         Group::Caller => 2,

@@ -12,7 +12,8 @@ use lib.Dec.{ltb}
 use lib.ListN.{getD, replicate}
 use native.Mathlib.Nat.{lt-of-le-of-lt}
 use borrow.Author.Tests.{ltb-true, lt-ltb, ne-eqb}
-use Rattle.bitset.specs.Sets.{any, has, setOf}
+use Rattle.bitset.specs.Sets.{any}
+use Rattle.bitset.specs.Numbers.{has, setOf}
 use Rattle.bitset.proofs.Tests.{and-in, and-out, or-left, or-right, or-cases}
 use Rattle.bitset.proofs.Below.{any-in, any-out, any-none}
 use Rattle.bitset.proofs.Bits.{has-and, has-empty, has-setOf, setOf-lt}

@@ -10,7 +10,8 @@ use native.Mathlib.Omega.{arith}
 use lib.Dec.{ltb, leb}
 use lib.ListN.{replicate, getD-replicate}
 use borrow.Author.Tests.{lt-ltb, le-leb, lt-leb, leb-true}
-use Rattle.bitset.specs.Sets.{any, has, setOf}
+use Rattle.bitset.specs.Sets.{any}
+use Rattle.bitset.specs.Numbers.{has, setOf}
 use Rattle.bitset.proofs.Tests.{and-in, and-out, not-so, decided, same-test}
 use Rattle.bitset.proofs.Below.{any-in, any-out, any-none, any-cong, with-any}
 use Rattle.bitset.proofs.Bits.{has-empty, has-setOf, some-member, fits}

@@ -14,7 +14,8 @@ use lib.ListN.{length, getD, replicate, set}
 use lib.Seq.{getD-set-same, getD-set-other}
 use borrow.Author.Count.{below-more}
 use borrow.Author.Tests.{eqb-true, eq-eqb, lt-ltb, le-ltb, le-leb, lt-leb}
-use Rattle.bitset.specs.Sets.{any, has, setOf}
+use Rattle.bitset.specs.Sets.{any}
+use Rattle.bitset.specs.Numbers.{has, setOf}
 use Rattle.bitset.proofs.Tests.{and-in, and-out, or-left, or-right, or-cases}
 use Rattle.bitset.proofs.Below.{any-in}
 use Rattle.bitset.proofs.Bits.{has-or, has-and, has-xor, has-empty, has-shl, has-setOf, has-lt, fits}

@@ -10,7 +10,8 @@ use lib.ListN.{length, getD, set, replicate, length-set}
 use lib.Seq.{getD-set-same, getD-set-other}
 use borrow.Author.Count.{below-more}
 use borrow.Author.Tests.{ltb-true, lt-ltb, eqb-true, eq-eqb}
-use Rattle.bitset.specs.Sets.{any, has, setOf}
+use Rattle.bitset.specs.Sets.{any}
+use Rattle.bitset.specs.Numbers.{has, setOf}
 use Rattle.bitset.proofs.Tests.{and-in, and-out, same-test}
 use Rattle.bitset.proofs.Below.{any-in, any-out}
 use Rattle.bitset.proofs.Bits.{has-empty, has-setOf, has-shl, same-members, setOf-lt}

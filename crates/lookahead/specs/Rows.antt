@@ -5,7 +5,8 @@ use mathlib.Core.Bool.{Bool, xor, _&&_, _||_}
 use mathlib.Core.Path.{_≡_}
 use mathlib.Core.List.{List}
 use lib.ListN.{length, getD}
-use Rattle.bitset.specs.Sets.{any, has, setOf}
+use Rattle.bitset.specs.Sets.{any}
+use Rattle.bitset.specs.Numbers.{has, setOf}
 use Rattle.semiautomata.specs.Successors.{place}
 
 -- the states that letter a leads to from q

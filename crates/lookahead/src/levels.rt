@@ -5,7 +5,7 @@ ghost use mathlib.Core.Bool.{true, false, not, _&&_};
 ghost use mathlib.Core.Path.{_≡_};
 ghost use Prim.Native.Nat.{_^_, _<_};
 ghost use lib.ListN.{length};
-ghost use Rattle.bitset.specs.Sets.{has, setOf};
+ghost use Rattle.bitset.specs.Numbers.{has, setOf};
 ghost use Rattle.semiautomata.specs.Predictability.{Lookahead};
 ghost use Rattle.semiautomata.specs.Walks.{step};
 ghost use Rattle.semiautomata.specs.Successors.{successors, Fit};

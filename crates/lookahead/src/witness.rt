@@ -7,7 +7,7 @@ ghost use mathlib.Core.Bool.{_&&_};
 ghost use mathlib.Core.Path.{_≡_};
 ghost use Prim.Native.Nat.{_*_, _^_, _≤_, _<_};
 ghost use lib.ListN.{length};
-ghost use Rattle.bitset.specs.Sets.{has};
+ghost use Rattle.bitset.specs.Numbers.{has};
 ghost use Rattle.semiautomata.specs.Successors.{successors, Fit};
 ghost use Rattle.lookahead.specs.Rivals.{Together, Named};
 ghost use Rattle.lookahead.specs.Rounds.{Lasting};

@@ -15,7 +15,8 @@ use lib.Seq.{getD-set-same, getD-set-other, drop-set-lt}
 use lib.Bits.{bitAnd, bitOr, or-lt}
 use lib.Pow.{pow-lt, pow-pos}
 use borrow.Author.Tests.{lt-ltb, ltb-true, leb-false, eqb-true, eq-eqb, not-false}
-use Rattle.bitset.specs.Sets.{any, has, setOf, single}
+use Rattle.bitset.specs.Sets.{any, single}
+use Rattle.bitset.specs.Numbers.{has, setOf}
 use Rattle.bitset.proofs.Tests.{decided, and-out, not-so}
 use Rattle.bitset.proofs.Below.{any-not}
 use Rattle.bitset.proofs.Bits.{has-or, has-and, has-empty, has-setOf, has-pow, pow-setOf, same-members}

@@ -1,5 +1,4 @@
 pub mod Tests
-pub mod Groups
 pub mod Entering
 pub mod Refusals
 pub mod Readings

@@ -10,7 +10,7 @@ use native.Mathlib.Nat.{mul-le-mul-right}
 use lib.Dec.{ltb}
 use lib.ListN.{length, getD, replicate, getD-replicate, length-replicate, List·getD-eq-default}
 use borrow.Author.Tests.{lt-ltb, ltb-true, ltb-false}
-use Rattle.bitset.specs.Sets.{has, setOf}
+use Rattle.bitset.specs.Numbers.{has, setOf}
 use Rattle.bitset.proofs.Tests.{decided}
 use Rattle.bitset.proofs.Bits.{has-setOf, setOf-lt}
 use Rattle.semiautomata.proofs.Successors.{successors-are}

@@ -7,7 +7,7 @@ use mathlib.Core.List.{List}
 use native.Mathlib.Omega.{arith}
 use lib.Dec.{eqb}
 use borrow.Author.Tests.{eqb-true, eqb-false}
-use Rattle.semiautomata.specs.Outcomes.{Outcome, refused, answered}
+use Rattle.refusals.specs.Outcomes.{Outcome, refused, answered}
 use Rattle.plan.specs.Bytes.{headerOf, refusal, WellFormed, PlanCounts, counts, reading}
 
 module _ (plan : List ℕ) where

@@ -10,8 +10,9 @@ use lib.ListN.{length}
 use borrow.Author.Tests.{lt-ltb, le-ltb, ltb-false, leb-true, eq-eqb, eqb-true, ne-eqb, not-false}
 use Rattle.bitset.proofs.Tests.{and-out}
 use Rattle.semiautomata.specs.Semiautomaton.{Within}
-use Rattle.semiautomata.specs.Plan.{within, countOff, startHigh, startOff, lineOff, lineTwice}
-use Rattle.semiautomata.proofs.Lowest.{Numbered, lowest-le}
+use Rattle.semiautomata.specs.Plan.{countOff, startHigh, startOff, lineOff, lineTwice}
+use Rattle.refusals.specs.Checks.{within}
+use Rattle.refusals.proofs.First.{Numbered, first-le}
 use Rattle.semiautomata.proofs.Plan.{plan-within}
 use Rattle.plan.specs.declared.Header.{Header}
 use Rattle.plan.specs.Bytes.{headerOf, lineWidth, parsed, meaning, placed, misplaced, planChecks, refusal, WellFormed}
@@ -176,24 +177,8 @@ module _ (plan : List ℕ) (w : WellFormed plan) where
 -- THEIR NUMBERS
 
 pub plan-numbered : (plan : List ℕ) → Numbered 7 (planChecks plan)
-plan-numbered plan = (
-  omega arith,
-  omega arith,
-  (
-    omega arith,
-    omega arith,
-    (
-      omega arith,
-      omega arith,
-      (
-        omega arith,
-        omega arith,
-        (omega arith, omega arith, (omega arith, omega arith, (omega arith, omega arith, tt))),
-      ),
-    ),
-  ),
-)
+plan-numbered plan = refl
 
 pub refusal-le : (plan : List ℕ) → refusal plan ≤ 7
 unfolding refusal
-refusal-le plan = lowest-le 7 (planChecks plan) (plan-numbered plan)
+refusal-le plan = first-le 7 (planChecks plan) (plan-numbered plan)

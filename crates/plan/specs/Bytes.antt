@@ -7,8 +7,8 @@ use mathlib.Core.List.{List, [], _∷_}
 use lib.Dec.{eqb, ltb, leb}
 use lib.ListN.{length, getD}
 use Rattle.semiautomata.specs.Semiautomaton.{Semiautomaton}
-use Rattle.semiautomata.specs.Calls.{Check, lowest}
-use Rattle.semiautomata.specs.Outcomes.{Outcome, refused, answered}
+use Rattle.refusals.specs.Checks.{Check, firstOf}
+use Rattle.refusals.specs.Outcomes.{Outcome, refused, answered}
 use Rattle.semiautomata.specs.Plan.{Line, Plan, semiautomaton, countOff, startOff, lineOff, lineTwice}
 use Rattle.plan.specs.declared.Header.{Header}
 use Rattle.plan.specs.declared.Reading.{Reading}
@@ -78,9 +78,9 @@ planChecks plan =
     ∷ record { number = 7; applies = lineTwice (parsed plan) }
     ∷ []
 
--- The lowest that applies, 0 if none does; a plan is well formed if none applies.
+-- The first that applies, 0 if none does; a plan is well formed if none applies.
 unfoldable pub refusal : List ℕ → ℕ
-refusal plan = lowest (planChecks plan)
+refusal plan = firstOf (planChecks plan)
 
 abbrev pub WellFormed : List ℕ → Type 0
 WellFormed plan = refusal plan ≡ 0

@@ -1,4 +1,3 @@
 pub mod Bytes
 pub mod Loading
-pub mod Groups
 pub mod Theorems

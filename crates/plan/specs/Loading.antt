@@ -5,7 +5,8 @@ use mathlib.Core.Bool.{cond}
 use mathlib.Core.Path.{_≡_}
 use mathlib.Core.List.{List}
 use lib.ListN.{length, getD, drop}
-use Rattle.bitset.specs.Sets.{any, has}
+use Rattle.bitset.specs.Sets.{any}
+use Rattle.bitset.specs.Numbers.{has}
 use Rattle.semiautomata.specs.Plan.{Line, Plan, says, startOff, lineOff, lineTwice}
 use Rattle.semiautomata.specs.Successors.{place, successors, Fit}
 use Rattle.plan.specs.declared.Header.{Header}

@@ -4,12 +4,10 @@ ghost use mathlib.Core.Path.{_≡_};
 ghost use mathlib.Core.Bool.{false};
 ghost use Prim.Native.Nat.{ℕ, _+_, _*_, _≤_, _<_};
 ghost use lib.ListN.{length, getD};
-ghost use Rattle.bitset.specs.Sets.{setOf};
+ghost use Rattle.bitset.specs.Numbers.{setOf};
 ghost use Rattle.semiautomata.specs.Plan.{countOff, startOff, lineOff, lineTwice};
 ghost use Rattle.plan.specs.Bytes.{number, headerOf, misplaced, parsed, meaning, refusal, outcomeOfReading, reading, WellFormed};
 ghost use Rattle.plan.specs.Loading.{Sound, partsRefusal, IsLine, Entered, Loaded};
-
-pub mod group;
 
 // A line has so many bytes.
 const LINE_WIDTH: usize = 3;

@@ -9,7 +9,8 @@ use lib.ListN.{length, getD, take, drop, length-take, length-drop}
 use lib.Dec.{ltb}
 use lib.Seq.{drop-cons}
 use borrow.Author.Tests.{le-leb, lt-leb}
-use Rattle.bitset.specs.Sets.{any, has, setOf}
+use Rattle.bitset.specs.Sets.{any}
+use Rattle.bitset.specs.Numbers.{has, setOf}
 use Rattle.bitset.proofs.Below.{with-any}
 use Rattle.bitset.proofs.Bits.{has-empty}
 use Rattle.semiautomata.specs.Semiautomaton.{Semiautomaton}

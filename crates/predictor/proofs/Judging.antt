@@ -11,7 +11,8 @@ use lib.Dec.{eqb, ltb, leb}
 use lib.ListN.{length, take, drop, take-append-drop}
 use lib.Seq.{take-length, take-append-le, drop-append-le, drop-nil}
 use borrow.Author.Tests.{lt-ltb, le-ltb, le-leb, lt-leb, eqb-true, eqb-false, leb-false, ltb-true, ltb-false}
-use Rattle.bitset.specs.Sets.{any, size, has, setOf}
+use Rattle.bitset.specs.Sets.{any, size}
+use Rattle.bitset.specs.Numbers.{has, setOf}
 use Rattle.bitset.proofs.Tests.{and-in, and-out, decided, same-test}
 use Rattle.bitset.proofs.Below.{any-out, any-none, size-cong, Sole, size-sole, least-sole}
 use Rattle.bitset.proofs.Bits.{has-empty, has-high, fits, some-member, setOf-lt, setOf-has, has-setOf, is-setOf, setOf-cong}
@@ -19,7 +20,8 @@ use Rattle.bitset.proofs.Members.{ones-size}
 use Rattle.semiautomata.specs.Semiautomaton.{Semiautomaton, Within}
 use Rattle.semiautomata.specs.Walks.{spells, step, reach, survivors, walkable, possible}
 use Rattle.semiautomata.specs.Successors.{successors}
-use Rattle.semiautomata.specs.Calls.{Reply, refused, resolved, nothing, Check, checked}
+use Rattle.semiautomata.specs.Calls.{Reply, refused, resolved, nothing, checked}
+use Rattle.refusals.specs.Checks.{Check}
 use Rattle.semiautomata.specs.PlainWalk.{limit}
 use Rattle.semiautomata.specs.Streaming.{Rec, base, sound, latest, soleAt, resolve, settle, after}
 use Rattle.semiautomata.specs.Streaming.{unopened, openChecks, opened, feed, feedChecks}

@@ -8,7 +8,7 @@ use native.Mathlib.Nat.{not-suc-le-zero}
 use native.Mathlib.Omega.{arith}
 use lib.Pow.{pow-pos}
 use lib.ListN.{length, getD}
-use Rattle.bitset.specs.Sets.{has, setOf}
+use Rattle.bitset.specs.Numbers.{has, setOf}
 use Rattle.bitset.proofs.Tests.{not-so}
 use Rattle.bitset.proofs.Bits.{has-empty, is-setOf}
 use Rattle.semiautomata.specs.Semiautomaton.{Semiautomaton, Within, Path}

@@ -10,7 +10,8 @@ use lib.Dec.{eqb, ltb, leb}
 use lib.ListN.{length, take, drop, length-drop}
 use lib.Seq.{length-take-le}
 use borrow.Author.Tests.{ltb-true, ltb-false, le-ltb, leb-true, eqb-true, ne-eqb}
-use Rattle.bitset.specs.Sets.{any, has, setOf, single}
+use Rattle.bitset.specs.Sets.{any, single}
+use Rattle.bitset.specs.Numbers.{has, setOf}
 use Rattle.bitset.proofs.Tests.{and-out, decided}
 use Rattle.bitset.proofs.Below.{any-out}
 use Rattle.bitset.proofs.Bits.{fits, has-setOf}

@@ -7,10 +7,11 @@ use mathlib.Core.Path.{_≡_}
 use mathlib.Core.List.{List, [], _∷_, _++_, map}
 use lib.Dec.{ltb}
 use lib.ListN.{length, drop}
-use Rattle.bitset.specs.Sets.{setOf}
-use Rattle.semiautomata.specs.Calls.{Reply, refused, resolved, nothing, Result, Check, checked, lowest}
-use Rattle.semiautomata.specs.Outcomes.{Outcome, answered, Gives}
-use Rattle.semiautomata.specs.Outcomes as outcomes
+use Rattle.bitset.specs.Numbers.{setOf}
+use Rattle.semiautomata.specs.Calls.{Reply, refused, resolved, nothing, Result, checked}
+use Rattle.refusals.specs.Checks.{Check, firstOf}
+use Rattle.refusals.specs.Outcomes.{Outcome, answered, Gives}
+use Rattle.refusals.specs.Outcomes as outcomes
 use Rattle.semiautomata.specs.Streaming.{Rec, openChecks, opened, feedChecks, feed, finish, soundCheck}
 use Rattle.table.specs.Table.{statesOf, lookaheadOf, tableMeaning, unfit}
 use Rattle.predictor.specs.declared.Answer.{Answer}
@@ -78,7 +79,7 @@ endChecks table bytes sets =
     ∷ []
 
 unfoldable pub endRefusal : List ℕ → List ℕ → ℕ → ℕ
-endRefusal table bytes sets = lowest (endChecks table bytes sets)
+endRefusal table bytes sets = firstOf (endChecks table bytes sets)
 
 -- The sets that ending writes, as numbers.
 abbrev pub ended : List ℕ → List ℕ → List ℕ

@@ -5,7 +5,8 @@ use mathlib.Core.Bool.{Bool, true, false, not, cond, _&&_}
 use mathlib.Core.Path.{_≡_}
 use mathlib.Core.List.{List, [], _∷_, _++_, map}
 use lib.Dec.{eqb, ltb}
-use Rattle.bitset.specs.Sets.{size, least, has, setOf, single}
+use Rattle.bitset.specs.Sets.{size, least, single}
+use Rattle.bitset.specs.Numbers.{has, setOf}
 use Rattle.semiautomata.specs.Semiautomaton.{Semiautomaton}
 use Rattle.semiautomata.specs.Walks.{reach}
 use Rattle.semiautomata.specs.Calls.{Reply, refused, resolved, nothing, Result, checked}

@@ -7,7 +7,7 @@ use mathlib.Core.List.{List}
 use lib.ListN.{length}
 use Rattle.semiautomata.specs.Semiautomaton.{Semiautomaton}
 use Rattle.semiautomata.specs.Predictability.{Lookahead, Unpredictable}
-use Rattle.semiautomata.specs.Outcomes.{refused}
+use Rattle.refusals.specs.Outcomes.{refused}
 use Rattle.semiautomata.proofs.Decide.{witness-unpredictable}
 use Rattle.plan.specs.Bytes.{meaning}
 use Rattle.lookahead.specs.declared.Evidence.{Evidence}

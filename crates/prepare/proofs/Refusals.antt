@@ -10,7 +10,7 @@ use native.Mathlib.Nat.{mul-le-mul-right}
 use lib.Dec.{eqb, ltb}
 use borrow.Author.Tests.{eqb-true, eqb-false, lt-ltb, le-ltb}
 use Rattle.bitset.proofs.Tests.{decided}
-use Rattle.semiautomata.proofs.Lowest.{lowest-zero, lowest-first}
+use Rattle.refusals.proofs.First.{first-behind, first-before}
 use Rattle.plan.specs.Bytes.{headerOf, planChecks, refusal, WellFormed}
 use Rattle.plan.proofs.Refusals.{well-formed-range, plan-numbered, refusal-le}
 use Rattle.table.specs.Table.{setsFrom}
@@ -29,19 +29,19 @@ module _ (plan : List ℕ) where
   -- 9 is looked at where the plan is well formed
   pub count-well : WellFormed plan → (letters : ℕ) → countRefusal plan letters ≡ cond (shortLetters plan letters) 9 0
   unfolding refusal countRefusal
-  count-well w letters = lowest-zero 7 (planChecks plan) (short (shortLetters plan letters)) (plan-numbered plan) w
+  count-well w letters = first-behind 7 (planChecks plan) (short (shortLetters plan letters)) (plan-numbered plan) w
 
   pub prepare-well : WellFormed plan → (table letters : ℕ) → prepareRefusal plan table letters ≡ cond (shortTable plan table || shortLetters plan letters) 9 0
   unfolding refusal prepareRefusal
-  prepare-well w table letters = lowest-zero 7 (planChecks plan) (short (shortTable plan table || shortLetters plan letters)) (plan-numbered plan) w
+  prepare-well w table letters = first-behind 7 (planChecks plan) (short (shortTable plan table || shortLetters plan letters)) (plan-numbered plan) w
 
   pub count-unwell : ¬ (refusal plan ≡ 0) → (letters : ℕ) → countRefusal plan letters ≡ refusal plan
   unfolding refusal countRefusal
-  count-unwell n letters = lowest-first (planChecks plan) (short (shortLetters plan letters)) n
+  count-unwell n letters = first-before (planChecks plan) (short (shortLetters plan letters)) n
 
   pub prepare-unwell : ¬ (refusal plan ≡ 0) → (table letters : ℕ) → prepareRefusal plan table letters ≡ refusal plan
   unfolding refusal prepareRefusal
-  prepare-unwell n table letters = lowest-first (planChecks plan) (short (shortTable plan table || shortLetters plan letters)) n
+  prepare-unwell n table letters = first-before (planChecks plan) (short (shortTable plan table || shortLetters plan letters)) n
 
   -- with the counts under the names that code has for them
   module _ (w : WellFormed plan) {n : ℕ} (en : n ≡ headerOf plan .n) where

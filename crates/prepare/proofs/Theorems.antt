@@ -11,7 +11,7 @@ use Rattle.semiautomata.proofs.Shares.{lookahead-unique, lookahead-predicts}
 use Rattle.semiautomata.proofs.Bound.{lookahead-bound, lookahead-bound-one}
 use Rattle.semiautomata.specs.Semiautomaton.{Semiautomaton}
 use Rattle.semiautomata.specs.Predictability.{Lookahead}
-use Rattle.semiautomata.specs.Outcomes.{answered}
+use Rattle.refusals.specs.Outcomes.{answered}
 use Rattle.plan.specs.Bytes.{headerOf, meaning, WellFormed}
 use Rattle.table.specs.Table.{statesOf, lettersOf, setsFrom}
 use Rattle.table.proofs.Fitness.{fitting}

@@ -10,8 +10,8 @@ use lib.ListN.{length, drop}
 use Rattle.semiautomata.specs.Semiautomaton.{Semiautomaton}
 use Rattle.semiautomata.specs.Predictability.{Lookahead}
 use Rattle.semiautomata.specs.Predictability as predictability
-use Rattle.semiautomata.specs.Calls.{Check, lowest}
-use Rattle.semiautomata.specs.Outcomes.{Outcome, refused, answered}
+use Rattle.refusals.specs.Checks.{Check, firstOf}
+use Rattle.refusals.specs.Outcomes.{Outcome, refused, answered}
 use Rattle.plan.specs.Bytes.{headerOf, meaning, planChecks, refusal}
 use Rattle.table.specs.Table.{setsFrom, lookaheadOf, tableMeaning, unfit}
 use Rattle.lookahead.specs.declared.Evidence.{Evidence}
@@ -31,10 +31,10 @@ short applies = record { number = 9; applies = applies } ∷ []
 
 -- The refusals of the count call and of preparing before 15, in order.
 unfoldable pub countRefusal : List ℕ → ℕ → ℕ
-countRefusal plan letters = lowest (planChecks plan ++ short (shortLetters plan letters))
+countRefusal plan letters = firstOf (planChecks plan ++ short (shortLetters plan letters))
 
 unfoldable pub prepareRefusal : List ℕ → ℕ → ℕ → ℕ
-prepareRefusal plan table letters = lowest (planChecks plan ++ short (shortTable plan table || shortLetters plan letters))
+prepareRefusal plan table letters = firstOf (planChecks plan ++ short (shortTable plan table || shortLetters plan letters))
 
 -- The table holds the form of S with k, and keeps the rest of the buffer.
 pub record Tabled (S : Semiautomaton) (k : ℕ) (old table : List ℕ) : Type 0 where

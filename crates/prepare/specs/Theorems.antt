@@ -7,7 +7,7 @@ use mathlib.Core.List.{List}
 use lib.ListN.{length}
 use Rattle.semiautomata.specs.Semiautomaton.{Semiautomaton}
 use Rattle.semiautomata.specs.Predictability as predictability
-use Rattle.semiautomata.specs.Outcomes.{refused, answered}
+use Rattle.refusals.specs.Outcomes.{refused, answered}
 use Rattle.plan.specs.Bytes.{headerOf, meaning, WellFormed}
 use Rattle.table.specs.Table.{setsFrom}
 use Rattle.lookahead.specs.declared.Evidence.{Evidence}

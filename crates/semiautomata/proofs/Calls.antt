@@ -1,23 +1,26 @@
 -- Laws of calls that keep a state: two that agree call by call agree in all their replies.
 -- Assumes nothing.
-use Prim.Native.Nat.{ℕ, _<_}
-use mathlib.Core.Bool.{Bool, true, false, cond}
+use Prim.Native.Nat.{ℕ, _≤_}
+use mathlib.Core.Bool.{Bool, true, false, not, cond, _&&_}
 use mathlib.Core.Path.{_≡_, refl}
 use mathlib.Core.Logic.{_⊎_, _↔_, inl, inr}
-use mathlib.Core.List.{List, [], _∷_, _++_}
+use mathlib.Core.List.{List, [], _∷_}
 use native.Mathlib.Omega.{arith}
-use Rattle.bitset.proofs.Tests.{decided}
-use Rattle.semiautomata.specs.Calls.{refused, Result, Check, checked, replies, final, lowest}
-
--- no check applies
-abbrev pub Passed : List Check → Type 0
-Passed [] = Unit {0}
-Passed (c ∷ cs) = (c .applies ≡ false) × Passed cs
+use lib.Dec.{eqb}
+use borrow.Author.Tests.{eqb-false, not-true}
+use Rattle.bitset.proofs.Tests.{decided, and-out}
+use Rattle.refusals.specs.Checks.{Check, firstOf}
+use Rattle.refusals.proofs.First.{Numbered, split, Passed, passed-first, first-passed}
+use Rattle.semiautomata.specs.Calls.{refused, Result, checked, replies, final}
 
 -- the number is that of one of the checks
 abbrev pub Among : ℕ → List Check → Type 0
 Among number [] = ⊥
 Among number (c ∷ cs) = (number ≡ c .number) ⊎ Among number cs
+
+pub among-numbered : (b r : ℕ) (cs : List Check) → Numbered b cs → Among r cs → (1 ≤ r) × (r ≤ b)
+among-numbered b r (c ∷ cs) n (inl e) = let s = split b c cs n in (omega (arith, s .low), omega (arith, s .high))
+among-numbered b r (c ∷ cs) n (inr a) = among-numbered b r cs (split b c cs n .rest) a
 
 -- what a call with checks is: refused by one of them, with the state kept, or done
 pub data Course {A : Type 0} (cs : List Check) (state : A) (done : Result A) : Result A → Type 0 where
@@ -39,50 +42,28 @@ course (c ∷ cs) state done = go (c .applies) refl (course cs state done)
 
 -- A REFUSAL BEHIND THE CHECKS
 
--- each check has a number, and a lower one than this
-abbrev pub Lower : ℕ → List Check → Type 0
-Lower number [] = Unit {0}
-Lower number (c ∷ cs) = (0 < c .number) × (c .number < number) × Lower number cs
+-- a number that no check of a list has; of a list that is written down this computes
+abbrev pub lacks : ℕ → List Check → Bool
+lacks x [] = true
+lacks x (c ∷ cs) = not (eqb x (c .number)) && lacks x cs
 
-lower-among : (number : ℕ) (cs : List Check) → Lower number cs → (r : ℕ) → Among r cs → r < number
-lower-among number (c ∷ cs) (_, h, _) r (inl e) = omega arith
-lower-among number (c ∷ cs) (_, _, l) r (inr a) = lower-among number cs l r a
-
-pub passed-lowest : (cs : List Check) → Passed cs → lowest cs ≡ 0
-passed-lowest [] _ = refl
-passed-lowest (c ∷ cs) (e, p) = rw e (passed-lowest cs p)
-
-pub lowest-passed : (number : ℕ) (cs : List Check) → Lower number cs → lowest cs ≡ 0 → Passed cs
-lowest-passed number [] _ _ = tt
-lowest-passed number (c ∷ cs) (some, _, l) z = go (decided (c .applies)) (lowest-passed number cs l)
-  where
-    go : (c .applies ≡ true) ⊎ (c .applies ≡ false) → (lowest cs ≡ 0 → Passed cs) → Passed (c ∷ cs)
-    go (inl e) ih = let n : c .number ≡ 0 = rw e at z in absurd (omega arith)
-    go (inr e) ih = (e, ih (rw e at z))
-
--- none of two lists applies
-pub lowest-append : (number : ℕ) (cs ds : List Check) → Lower number cs → (lowest (cs ++ ds) ≡ 0) ↔ ((lowest cs ≡ 0) × (lowest ds ≡ 0))
-lowest-append number [] ds _ = (λ z. (refl, z), λ (_, z). z)
-lowest-append number (c ∷ cs) ds (some, _, l) = go (decided (c .applies)) (lowest-append number cs ds l)
-  where
-    go : (c .applies ≡ true) ⊎ (c .applies ≡ false) → ((lowest (cs ++ ds) ≡ 0) ↔ ((lowest cs ≡ 0) × (lowest ds ≡ 0)))
-        → (lowest (c ∷ (cs ++ ds)) ≡ 0) ↔ ((lowest (c ∷ cs) ≡ 0) × (lowest ds ≡ 0))
-    go (inl e) ih = rw e (λ z. absurd (omega arith), λ (z, _). absurd (omega arith))
-    go (inr e) ih = rw e ih
+lacks-among : (x : ℕ) (cs : List Check) → lacks x cs ≡ true → ¬ Among x cs
+lacks-among x (c ∷ cs) l (inl e) = eqb-false x (c .number) (not-true _ (and-out _ _ l .0)) e
+lacks-among x (c ∷ cs) l (inr a) = lacks-among x cs (and-out (not (eqb x (c .number))) _ l .1) a
 
 pub passed-done : {A : Type 0} (cs : List Check) (state : A) (done : Result A) → Passed cs → checked cs state done ≡ done
 passed-done [] state done _ = refl
 passed-done (c ∷ cs) state done (e, p) = rw e (passed-done cs state done p)
 
 -- it is given exactly if no check applies and what is done gives it
-pub behind : {A : Type 0} (number : ℕ) (cs : List Check) → Lower number cs → (state : A) (done : Result A)
-    → (checked cs state done .reply ≡ refused number) ↔ ((lowest cs ≡ 0) × (done .reply ≡ refused number))
-behind {A} number cs l state done =
-    (go (checked cs state done) (course cs state done), λ (z, e). rw (passed-done cs state done (lowest-passed number cs l z)) e)
+pub behind : {A : Type 0} (x b : ℕ) (cs : List Check) → lacks x cs ≡ true → Numbered b cs → (state : A) (done : Result A)
+    → (checked cs state done .reply ≡ refused x) ↔ ((firstOf cs ≡ 0) × (done .reply ≡ refused x))
+behind {A} x b cs l n state done =
+    (go (checked cs state done) (course cs state done), λ (z, e). rw (passed-done cs state done (first-passed b cs n z)) e)
   where
-    go : (s : Result A) → Course cs state done s → s .reply ≡ refused number → (lowest cs ≡ 0) × (done .reply ≡ refused number)
-    go s (refuses r a) e = let h = lower-among number cs l r a in let same : r ≡ number = cc in absurd (omega arith)
-    go s (passes p) e = (passed-lowest cs p, e)
+    go : (s : Result A) → Course cs state done s → s .reply ≡ refused x → (firstOf cs ≡ 0) × (done .reply ≡ refused x)
+    go s (refuses r a) e = let same : r ≡ x = cc in absurd (lacks-among x cs l (rw same at a))
+    go s (passes p) e = (passed-first cs p, e)
 
 -- two calls reply the same and leave states that R relates
 pub record Agree {A B : Type 0} (R : A → B → Type 0) (s : Result A) (t : Result B) : Type 0 where

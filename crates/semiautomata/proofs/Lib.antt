@@ -10,7 +10,6 @@ pub mod Computed
 pub mod Positions
 pub mod Selectors
 pub mod Calls
-pub mod Lowest
 pub mod Streaming
 pub mod Demand3
 pub mod Plan

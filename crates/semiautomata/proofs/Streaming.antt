@@ -19,13 +19,15 @@ use Rattle.bitset.proofs.Below.{any-in, any-out, any-none, size-empty, size-two
 use Rattle.semiautomata.specs.Semiautomaton.{Semiautomaton, Within}
 use Rattle.semiautomata.specs.Predictability.{initial, SetPredictable, Predictable}
 use Rattle.semiautomata.specs.Walks.{Walkable, OnPlan, Possible, TwoPossible, Only, walkable, possible}
-use Rattle.semiautomata.specs.Calls.{refused, nothing, lowest}
+use Rattle.semiautomata.specs.Calls.{refused, nothing}
+use Rattle.refusals.specs.Checks.{firstOf}
 use Rattle.semiautomata.specs.PlainWalk.{limit, stateAt, plainReply, plainChecks, plainFeed, plain, plainTaken}
 use Rattle.semiautomata.specs.Streaming.{Rec, base, rules, every, sound, latest, soleAt, settle, Undecided, settled, unopened}
 use Rattle.semiautomata.specs.Streaming.{openChecks, opened, feedChecks, feed, UndecidedBy, streamed, recordAfter}
 use Rattle.semiautomata.proofs.Computed.{walkable-out, walkable-in, possible-out, possible-in}
 use Rattle.semiautomata.proofs.Positions.{single-is, possible-lt, some-possible, possible-unique, restart-walkable, resume-walkable, restart-possible, resume-possible, whole-in, whole-out}
-use Rattle.semiautomata.proofs.Calls.{Passed, Lower, lowest-passed, behind, Agree, checked-agree, replies-agree, final-agree}
+use Rattle.semiautomata.proofs.Calls.{behind, Agree, checked-agree, replies-agree, final-agree}
+use Rattle.refusals.proofs.First.{Passed, first-passed}
 
 pub length-snoc : (w : List ℕ) (a : ℕ) → length (w ++ (a ∷ [])) ≡ suc (length w)
 length-snoc w a = length-append w (a ∷ []) ∙ add-one (length w)
@@ -134,15 +136,12 @@ module _ (S : Semiautomaton) (W : Within S) (k : ℕ) (r : Rec) where
     walked = walkable-out S (base S k r) (r .held ++ (a ∷ [])) (not-false _ stuck);
   }
 
-  feed-lower : (a : ℕ) → Lower 14 (feedChecks S k r a)
-  feed-lower a = (omega arith, omega arith, (omega arith, omega arith, (omega arith, omega arith, (omega arith, omega arith, tt))))
-
-  pub feeding-14 : (a : ℕ) → (feed S k r a .reply ≡ refused 14) ↔ ((lowest (feedChecks S k r a) ≡ 0) × UndecidedBy S k r a)
+  pub feeding-14 : (a : ℕ) → (feed S k r a .reply ≡ refused 14) ↔ ((firstOf (feedChecks S k r a) ≡ 0) × UndecidedBy S k r a)
   unfolding feed
   feeding-14 a =
       let w : List ℕ = r .held ++ (a ∷ []) in
-      let passed : lowest (feedChecks S k r a) ≡ 0 → Taken a = λ z. taken a (lowest-passed 14 (feedChecks S k r a) (feed-lower a) z) in
-      let (out, in′) = behind 14 (feedChecks S k r a) (feed-lower a) r (settled S k (base S k r) r (suc (r .fed)) w) in (
+      let passed : firstOf (feedChecks S k r a) ≡ 0 → Taken a = λ z. taken a (first-passed 13 (feedChecks S k r a) refl z) in
+      let (out, in′) = behind 14 13 (feedChecks S k r a) refl refl r (settled S k (base S k r) r (suc (r .fed)) w) in (
         λ e. let (z, d) = out e in
             let t = passed z in
             (z, undecided S W (base S k r) (base-lt (t .regular)) k (suc (r .fed)) w (t .walked) d),
@@ -150,15 +149,12 @@ module _ (S : Semiautomaton) (W : Within S) (k : ℕ) (r : Rec) where
       )
 
 module _ (S : Semiautomaton) (W : Within S) (k : ℕ) where
-  open-lower : Lower 14 (openChecks S)
-  open-lower = (omega arith, omega arith, tt)
-
-  pub opening-14 : (opened S k .reply ≡ refused 14) ↔ ((lowest (openChecks S) ≡ 0) × Undecided S k (S .initial) 0 [])
+  pub opening-14 : (opened S k .reply ≡ refused 14) ↔ ((firstOf (openChecks S) ≡ 0) × Undecided S k (S .initial) 0 [])
   unfolding opened
   opening-14 =
-      let (out, in′) = behind 14 (openChecks S) open-lower unopened (settled S k (S .initial) unopened 0 []) in (
+      let (out, in′) = behind 14 13 (openChecks S) refl refl unopened (settled S k (S .initial) unopened 0 []) in (
         λ e. let (z, d) = out e in
-            let (start, _) = lowest-passed 14 (openChecks S) open-lower z in
+            let (start, _) = first-passed 13 (openChecks S) refl z in
             let (s, _, is) = any-out (S .n) (S .initial) (not-false _ start) in
             (z, undecided S W (S .initial) (W .initial-lt) k 0 [] (empty-walked S s is) d),
         λ (z, u). in′ (z, undecided-14 S W (S .initial) (W .initial-lt) k 0 [] u),
@@ -327,7 +323,7 @@ module _ (S : Semiautomaton) (W : Within S) (k : ℕ) (P : Predictable S k) wher
   never-14 r a e =
       let (z, u) = feeding-14 S W k r a .0 e in
       let t = u .two in
-      let g = taken S W k r a (lowest-passed 14 (feedChecks S k r a) (feed-lower S W k r a) z) .regular in
+      let g = taken S W k r a (first-passed 13 (feedChecks S k r a) refl z) .regular in
       let w : List ℕ = r .held ++ (a ∷ []) in
       let follow : length w - k + k ≤ length w = omega (arith, length-snoc (r .held) a, g .held-are, u .due) in
       t .differ (possible-unique S (base S k r) k (base-predictable r) P w (length w - k) (t .x) (t .y) follow (t .one) (t .other))

@@ -9,7 +9,7 @@ use native.Mathlib.Nat.{mul-le-mul-right, mod-lt, div-add-mod', div-lt-iff-lt-mu
 use lib.Dec.{ltb}
 use lib.ListN.{getD}
 use borrow.Author.Tests.{ltb-true, lt-ltb}
-use Rattle.bitset.specs.Sets.{has}
+use Rattle.bitset.specs.Numbers.{has}
 use Rattle.bitset.proofs.Tests.{and-out, same-test}
 use Rattle.bitset.proofs.Bits.{has-lt}
 use Rattle.semiautomata.specs.Semiautomaton.{Semiautomaton, Within}

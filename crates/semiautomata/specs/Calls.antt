@@ -1,8 +1,9 @@
 -- Calls that keep a state: what a call replies and leaves, its refusals in order, and a list of calls one after the other.
 -- Assumes nothing.
 use Prim.Native.Nat.{ℕ}
-use mathlib.Core.Bool.{Bool, cond}
+use mathlib.Core.Bool.{cond}
 use mathlib.Core.List.{List, [], _∷_}
+use Rattle.refusals.specs.Checks.{Check}
 
 -- The reply of opening or of a letter fed: a refusal's number, a resolved position and its state (a booking), or that none was resolved.
 pub data Reply : Type 0 where
@@ -14,11 +15,6 @@ pub data Reply : Type 0 where
 pub record Result (A : Type 0) : Type 0 where
   pub reply : Reply
   pub state : A
-
--- A refusal: its number, and whether it applies.
-pub record Check : Type 0 where
-  pub number : ℕ
-  pub applies : Bool
 
 -- A call with its refusals in order: the first that applies is the reply and leaves the state; where none applies, the call gives `done`.
 abbrev pub checked : {A : Type 0} → List Check → A → Result A → Result A
@@ -33,8 +29,3 @@ replies f s (a ∷ rest) = f s a .reply ∷ replies f (f s a .state) rest
 abbrev pub final : {A : Type 0} → (A → ℕ → Result A) → A → List ℕ → A
 final f s [] = s
 final f s (a ∷ rest) = final f (f s a .state) rest
-
--- The number of the first refusal of a list that applies; 0 if none does.
-abbrev pub lowest : List Check → ℕ
-lowest [] = 0
-lowest (c ∷ cs) = cond (c .applies) (c .number) (lowest cs)

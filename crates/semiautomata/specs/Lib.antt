@@ -3,7 +3,6 @@ pub mod Predictability
 pub mod Walks
 pub mod Selectors
 pub mod Calls
-pub mod Outcomes
 pub mod PlainWalk
 pub mod Demand3
 pub mod Streaming

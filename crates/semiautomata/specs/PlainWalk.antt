@@ -8,7 +8,8 @@ use lib.ListN.{length}
 use Rattle.bitset.specs.Sets.{least}
 use Rattle.semiautomata.specs.Semiautomaton.{Semiautomaton}
 use Rattle.semiautomata.specs.Walks.{walkable, possible}
-use Rattle.semiautomata.specs.Calls.{Reply, resolved, nothing, Result, Check, checked, replies, final}
+use Rattle.semiautomata.specs.Calls.{Reply, resolved, nothing, Result, checked, replies, final}
+use Rattle.refusals.specs.Checks.{Check}
 
 -- So many letters are taken at the most.
 unfoldable pub limit : ℕ

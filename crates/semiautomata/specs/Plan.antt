@@ -3,12 +3,9 @@
 use Prim.Native.Nat.{ℕ}
 use mathlib.Core.Bool.{Bool, not, _&&_, _||_}
 use lib.Dec.{eqb, ltb, leb}
+use Rattle.refusals.specs.Checks.{within}
 use Rattle.bitset.specs.Sets.{any}
 use Rattle.semiautomata.specs.Semiautomaton.{Semiautomaton}
-
--- x is a number from a to b
-abbrev pub within : ℕ → ℕ → ℕ → Bool
-within a b x = leb a x && leb x b
 
 -- A line: from, letter (code), to.
 pub record Line : Type 0 where

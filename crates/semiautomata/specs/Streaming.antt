@@ -9,7 +9,8 @@ use lib.ListN.{length, drop}
 use Rattle.bitset.specs.Sets.{any, size, least, single}
 use Rattle.semiautomata.specs.Semiautomaton.{Semiautomaton}
 use Rattle.semiautomata.specs.Walks.{TwoPossible, walkable, possible}
-use Rattle.semiautomata.specs.Calls.{Reply, refused, resolved, nothing, Result, Check, checked, replies, final}
+use Rattle.semiautomata.specs.Calls.{Reply, refused, resolved, nothing, Result, checked, replies, final}
+use Rattle.refusals.specs.Checks.{Check}
 use Rattle.semiautomata.specs.PlainWalk.{limit}
 use Rattle.semiautomata.specs.Demand3.{followed, range, collect}
 

@@ -12,7 +12,8 @@ use Rattle.semiautomata.specs.Predictability.{Critical, Counts, Share, C
 use Rattle.semiautomata.specs.Levels.{live, counts, clashIn, clash, Repeats}
 use Rattle.semiautomata.specs.Walks.{Walkable, OnPlan, Longest, Possible, PossibleAt, Only, spells, survivors, walkable, possible, longest}
 use Rattle.semiautomata.specs.Selectors.{Survives, Selector, MinimalSelector, MaximalNonselector, selector, minimalSelector, maximalNonselector}
-use Rattle.semiautomata.specs.Calls.{refused, lowest}
+use Rattle.semiautomata.specs.Calls.{refused}
+use Rattle.refusals.specs.Checks.{firstOf}
 use Rattle.semiautomata.specs.PlainWalk.{stateAt, plain, plainTaken}
 use Rattle.semiautomata.specs.Demand3.{Only11to13, Demand3}
 use Rattle.semiautomata.specs.Streaming.{Rec, soleAt, Undecided, openChecks, opened, feedChecks, feed, UndecidedBy}
@@ -84,9 +85,9 @@ pub record Theorems (S : Semiautomaton) : Type 0 where
   pub never-14 : Within S → (k : ℕ) → Predictable S k → (r : Rec) (a : ℕ) → ¬ (feed S k r a .reply ≡ refused 14)
   -- with any k, the reply is 14 exactly if no earlier refusal applies, a position is due, and two or more states are possible there: of
   -- opening, and of a letter fed to any record
-  pub opening-14 : Within S → (k : ℕ) → (opened S k .reply ≡ refused 14) ↔ ((lowest (openChecks S) ≡ 0) × Undecided S k (S .initial) 0 [])
+  pub opening-14 : Within S → (k : ℕ) → (opened S k .reply ≡ refused 14) ↔ ((firstOf (openChecks S) ≡ 0) × Undecided S k (S .initial) 0 [])
   pub feeding-14 : Within S → (k : ℕ) (r : Rec) (a : ℕ)
-      → (feed S k r a .reply ≡ refused 14) ↔ ((lowest (feedChecks S k r a) ≡ 0) × UndecidedBy S k r a)
+      → (feed S k r a .reply ≡ refused 14) ↔ ((firstOf (feedChecks S k r a) ≡ 0) × UndecidedBy S k r a)
   -- from a fresh opening on, it replies as the plain walk to every list of letters offered; so 10 and 14 are never met there
   pub as-plain : Within S → (k : ℕ) → Predictable S k → (s : ℕ) → S .initial s ≡ true → (offered : List ℕ) → streamed S k offered ≡ plain S k offered
   pub plain-refusals : (k : ℕ) (offered : List ℕ) → Only11to13 (plain S k offered)

@@ -11,7 +11,8 @@ use lib.ListN.{length, take}
 use lib.Pow.{pow-pos}
 use lib.Seq.{take-take}
 use borrow.Author.Tests.{eqb-true, eq-eqb, ne-eqb, lt-ltb, le-ltb}
-use Rattle.bitset.specs.Sets.{any, size, has, setOf}
+use Rattle.bitset.specs.Sets.{any, size}
+use Rattle.bitset.specs.Numbers.{has, setOf}
 use Rattle.bitset.proofs.Tests.{and-in, and-out, same-test}
 use Rattle.bitset.proofs.Below.{any-in, with-any, size-sole, sole-size}
 use Rattle.bitset.proofs.Bits.{has-empty, has-setOf, is-setOf, setOf-cong}

@@ -5,7 +5,7 @@ use mathlib.Core.Path.{_≡_}
 use mathlib.Core.List.{List}
 use lib.ListN.{getD, take, drop}
 use lib.Seq.{length-take-le}
-use Rattle.bitset.specs.Sets.{setOf}
+use Rattle.bitset.specs.Numbers.{setOf}
 use Rattle.semiautomata.specs.Semiautomaton.{Semiautomaton, Within}
 use Rattle.semiautomata.specs.Walks.{Longest, Possible, PossibleAt, possible}
 use Rattle.semiautomata.proofs.Computed.{possible-in, possible-out, longest-unique}

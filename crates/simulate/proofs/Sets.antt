@@ -6,7 +6,8 @@ use mathlib.Core.Path.{_≡_, _∙_, ap}
 use lib.Dec.{ltb}
 use lib.Count.{ones}
 use borrow.Author.Tests.{lt-ltb}
-use Rattle.bitset.specs.Sets.{size, has, setOf}
+use Rattle.bitset.specs.Sets.{size}
+use Rattle.bitset.specs.Numbers.{has, setOf}
 use Rattle.bitset.proofs.Tests.{and-out}
 use Rattle.bitset.proofs.Below.{size-cong}
 use Rattle.bitset.proofs.Bits.{setOf-lt, has-setOf}

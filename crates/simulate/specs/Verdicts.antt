@@ -6,13 +6,14 @@ use mathlib.Core.Option.{Option, some, none}
 use mathlib.Core.Logic.{_↔_}
 use mathlib.Core.Path.{_≡_}
 use mathlib.Core.List.{List, [], _∷_, _++_}
-use Rattle.bitset.specs.Sets.{any, setOf}
+use Rattle.bitset.specs.Sets.{any}
+use Rattle.bitset.specs.Numbers.{setOf}
 use Rattle.semiautomata.specs.Semiautomaton.{Semiautomaton}
 use Rattle.semiautomata.specs.Predictability.{Critical, member, named}
 use Rattle.semiautomata.specs.Walks.{spells, survivors}
 use Rattle.semiautomata.specs.Selectors.{Survives, MinimalSelector, MaximalNonselector, minimalSelector, maximalNonselector}
-use Rattle.semiautomata.specs.Calls.{Check, lowest}
-use Rattle.semiautomata.specs.Outcomes.{Outcome, refused, answered, Gives}
+use Rattle.refusals.specs.Checks.{Check, firstOf}
+use Rattle.refusals.specs.Outcomes.{Outcome, refused, answered, Gives}
 use Rattle.table.specs.Table.{lettersOf, tableMeaning, unfit}
 use Rattle.walks.specs.Walking.{letterOff}
 use Rattle.simulate.specs.Walking.{Stands}
@@ -32,7 +33,7 @@ verdictChecks table q a word =
     ∷ []
 
 unfoldable pub verdictRefusal : List ℕ → ℕ → ℕ → List ℕ → ℕ
-verdictRefusal table q a word = lowest (verdictChecks table q a word)
+verdictRefusal table q a word = firstOf (verdictChecks table q a word)
 
 -- The states of T that can walk the word, whether it is a minimal selector in T, and the states of which it is a maximal nonselector.
 pub record Tells (S : Semiautomaton) (T : Critical) (word : List ℕ) (v : Verdict) : Type 0 where

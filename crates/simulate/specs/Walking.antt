@@ -7,9 +7,10 @@ use mathlib.Core.Path.{_≡_}
 use mathlib.Core.List.{List, [], _∷_}
 use lib.Dec.{ltb}
 use lib.ListN.{length, getD, drop}
-use Rattle.bitset.specs.Sets.{any, has}
-use Rattle.semiautomata.specs.Calls.{Check, lowest}
-use Rattle.semiautomata.specs.Outcomes.{Outcome, refused, answered, Gives}
+use Rattle.bitset.specs.Sets.{any}
+use Rattle.bitset.specs.Numbers.{has}
+use Rattle.refusals.specs.Checks.{Check, firstOf}
+use Rattle.refusals.specs.Outcomes.{Outcome, refused, answered, Gives}
 use Rattle.semiautomata.specs.Walks.{Longest, PossibleAt}
 use Rattle.walks.specs.Walking.{letterOff}
 use Rattle.table.specs.Table.{statesOf, lettersOf, tableMeaning, unfit}
@@ -25,7 +26,7 @@ walkChecks table word out =
     ∷ []
 
 unfoldable pub walkRefusal : List ℕ → List ℕ → ℕ → ℕ
-walkRefusal table word out = lowest (walkChecks table word out)
+walkRefusal table word out = firstOf (walkChecks table word out)
 
 -- The number stands for the set of those below n of which P holds.
 pub record Stands (n : ℕ) (P : ℕ → Type 0) (set : ℕ) : Type 0 where

@@ -3,7 +3,8 @@
 ghost use mathlib.Core.Path.{_≡_};
 ghost use mathlib.Core.Bool.{not, _&&_};
 ghost use Prim.Native.Nat.{ℕ, _^_, _<_};
-ghost use Rattle.bitset.specs.Sets.{any, has, setOf};
+ghost use Rattle.bitset.specs.Sets.{any};
+ghost use Rattle.bitset.specs.Numbers.{has, setOf};
 ghost use Rattle.semiautomata.specs.Walks.{step};
 ghost use Rattle.semiautomata.specs.Successors.{successors, Fit};
 ghost use Rattle.walks.specs.Walking.{Letters};

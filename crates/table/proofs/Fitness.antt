@@ -12,7 +12,8 @@ use lib.Dec.{eqb, ltb, leb}
 use lib.ListN.{length, getD, take, drop, length-take, length-drop}
 use lib.Seq.{getD-take, getD-drop}
 use borrow.Author.Tests.{ltb-false, leb-true, leb-false, eqb-true, not-false, le-ltb, le-leb, lt-leb, eq-eqb}
-use Rattle.bitset.specs.Sets.{any, has, setOf}
+use Rattle.bitset.specs.Sets.{any}
+use Rattle.bitset.specs.Numbers.{has, setOf}
 use Rattle.bitset.proofs.Tests.{and-out, not-so, decided, same-test}
 use Rattle.bitset.proofs.Below.{any-in, any-none, any-not}
 use Rattle.bitset.proofs.Bits.{has-high, fits, mask-setOf, and-mask-fits, fits-and-mask}

@@ -8,7 +8,7 @@ use native.Mathlib.Numerals.{add-one}
 use native.Mathlib.Omega.{arith}
 use lib.ListN.{length, getD, take, drop, set, length-append, length-take, length-drop, List·getD-append}
 use lib.Seq.{sets-eq, drop-at, getD-take, length-take-le, paste, paste-zero, paste-suc, length-paste}
-use Rattle.bitset.specs.Sets.{has}
+use Rattle.bitset.specs.Numbers.{has}
 use Rattle.semiautomata.specs.Successors.{place, successors, Fit}
 use Rattle.semiautomata.proofs.Successors.{place-lt, edge-is, fit-within, successors-are}
 use Rattle.table.specs.Table.{statesOf, lettersOf, lookaheadOf, initialOf, setsFrom, setsOf, tableMeaning, unfit, form}

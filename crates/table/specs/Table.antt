@@ -7,7 +7,7 @@ use lib.Dec.{ltb, leb}
 use lib.ListN.{length, getD, take, drop}
 use Rattle.bitset.specs.Sets.{any}
 use Rattle.semiautomata.specs.Semiautomaton.{Semiautomaton}
-use Rattle.semiautomata.specs.Plan.{within}
+use Rattle.refusals.specs.Checks.{within}
 use Rattle.semiautomata.specs.Successors.{successors}
 
 -- The numbers at the front, and where the successor sets begin.

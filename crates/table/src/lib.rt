@@ -2,7 +2,8 @@
 ghost use mathlib.Core.Path.{_≡_};
 ghost use Prim.Native.Nat.{ℕ, _+_, _*_, _≤_};
 ghost use lib.ListN.{length, getD};
-ghost use Rattle.bitset.specs.Sets.{any, has};
+ghost use Rattle.bitset.specs.Sets.{any};
+ghost use Rattle.bitset.specs.Numbers.{has};
 ghost use Rattle.table.specs.Table.{setsFrom, unfit, form};
 
 // All numbers of a slice joined.

@@ -9,7 +9,8 @@ use native.Mathlib.Omega.{arith}
 use lib.Dec.{ltb}
 use lib.ListN.{length}
 use borrow.Author.Tests.{le-ltb}
-use Rattle.bitset.specs.Sets.{any, setOf}
+use Rattle.bitset.specs.Sets.{any}
+use Rattle.bitset.specs.Numbers.{setOf}
 use Rattle.bitset.proofs.Below.{any-out, any-not}
 use Rattle.bitset.proofs.Tests.{decided, not-so}
 use Rattle.semiautomata.specs.Semiautomaton.{Semiautomaton, Within}

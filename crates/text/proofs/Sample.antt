@@ -7,7 +7,8 @@ use mathlib.Core.Path.{_≡_, refl}
 use mathlib.Core.List.{List, [], _∷_, _++_}
 use native.Mathlib.Omega.{arith}
 use lib.ListN.{length, replicate}
-use Rattle.bitset.specs.Sets.{any, size, least, has}
+use Rattle.bitset.specs.Sets.{any, size, least}
+use Rattle.bitset.specs.Numbers.{has}
 use Rattle.semiautomata.specs.Predictability.{Lookahead}
 use Rattle.semiautomata.specs.Walks.{spells, step, possible, walkable}
 use Rattle.semiautomata.specs.PlainWalk.{limit}

@@ -4,7 +4,8 @@ use Prim.Native.Nat.{ℕ}
 use mathlib.Core.Bool.{true≢false}
 use mathlib.Core.Path.{_≡_, refl, sym, _∙_}
 use mathlib.Core.List.{List, []}
-use Rattle.bitset.specs.Sets.{any, least, has, setOf}
+use Rattle.bitset.specs.Sets.{any, least}
+use Rattle.bitset.specs.Numbers.{has, setOf}
 use Rattle.semiautomata.specs.Semiautomaton.{Semiautomaton}
 use Rattle.semiautomata.specs.Walks.{spells, step, walkable, possible}
 use Rattle.semiautomata.specs.PlainWalk.{limit, stateAt, plainReply, plainFeed}

@@ -5,10 +5,10 @@ use mathlib.Core.Bool.{Bool, true, false, cond}
 use mathlib.Core.List.{List, []}
 use native.Mathlib.Omega.{arith}
 use lib.ListN.{length, length-append}
-use Rattle.bitset.specs.Sets.{has}
-use Rattle.plan.specs.declared.group.Group.{Group}
-use Rattle.plan.specs.declared.group.Group.the-variants.{Author, Caller, Logger, Nobody}
-use Rattle.plan.specs.Groups.{groupOf}
+use Rattle.bitset.specs.Numbers.{has}
+use Rattle.refusals.specs.declared.Group.{Group}
+use Rattle.refusals.specs.declared.Group.the-variants.{Author, Caller, Logger, Nobody}
+use Rattle.refusals.specs.Groups.{groupOf}
 use Rattle.text.specs.Lines.{stakes, codes, starts, lines, lookAhead, atWord, stake, openWord, space, refusedWord, groupWord, field, countsLine, lookaheadLine, refusedLine, resolutionLine, listed, openLine}
 use Rattle.text.proofs.Lines.{decimal-length}
 

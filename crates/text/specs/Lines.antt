@@ -6,10 +6,10 @@ use mathlib.Core.Path.{_≡_}
 use mathlib.Core.List.{List, [], _∷_, _++_}
 use lib.Dec.{ltb}
 use lib.ListN.{length, take, drop}
-use Rattle.bitset.specs.Sets.{has}
-use Rattle.plan.specs.declared.group.Group.{Group}
-use Rattle.plan.specs.declared.group.Group.the-variants.{Author, Caller, Logger, Nobody}
-use Rattle.plan.specs.Groups.{groupOf}
+use Rattle.bitset.specs.Numbers.{has}
+use Rattle.refusals.specs.declared.Group.{Group}
+use Rattle.refusals.specs.declared.Group.the-variants.{Author, Caller, Logger, Nobody}
+use Rattle.refusals.specs.Groups.{groupOf}
 
 -- The decimal digits of x: those of x / 10, unless x is below 10, and then the last digit. The count c only bounds how many stand in front
 -- of the last.

@@ -6,7 +6,7 @@ use mathlib.Core.Path.{_≡_}
 use mathlib.Core.List.{List, [], _∷_, _++_, map}
 use lib.Dec.{ltb}
 use lib.ListN.{length, take, drop}
-use Rattle.bitset.specs.Sets.{setOf}
+use Rattle.bitset.specs.Numbers.{setOf}
 use Rattle.semiautomata.specs.Semiautomaton.{Semiautomaton}
 use Rattle.semiautomata.specs.Predictability.{Lookahead, Unpredictable}
 use Rattle.semiautomata.specs.Calls.{Reply, refused, resolved, nothing, Result}

@@ -1,9 +1,9 @@
 // The report's lines, each written at a place of a buffer that keeps the rest; the answer is the place behind the line.
 ghost use mathlib.Core.Bool.{cond};
 ghost use mathlib.Core.List.{[]};
-ghost use Rattle.bitset.specs.Sets.{has};
+ghost use Rattle.bitset.specs.Numbers.{has};
 ghost use Rattle.text.specs.Lines.{decimal, field as Lines·field, space, groupWord, countsLine, lookaheadLine, refusedLine, resolutionLine, listed, openLine, Room, Appended};
-use plan::group::Group;
+use refusals::Group;
 
 // Bytes, as they are.
 fn append(out: &mut [u8], at: usize, bytes: &[u8]) -> usize
@@ -70,7 +70,7 @@ pub fn refused(out: &mut [u8], at: usize, number: u8) -> usize
     ensures { λ r. ⌜ Appended (now (out .entry)) at (refusedLine number) r (now (out .exit)) ⌝ }
 {
     let end = field(out, at, b"refused ", number as u64);
-    let who = group(out, end, plan::group::group_of(number));
+    let who = group(out, end, refusals::group_of(number));
     append(out, who, b"\n")
 }
 

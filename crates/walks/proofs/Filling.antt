@@ -9,7 +9,8 @@ use native.Mathlib.Decide.{ℕ-discrete}
 use lib.ListN.{length, getD, take, drop, length-set}
 use lib.ListN as L
 use lib.Seq.{length-take-le, take-take, drop-drop, getD-set-same, getD-set-other, drop-set-lt}
-use Rattle.bitset.specs.Sets.{any, has, setOf}
+use Rattle.bitset.specs.Sets.{any}
+use Rattle.bitset.specs.Numbers.{has, setOf}
 use Rattle.bitset.proofs.Bits.{setOf-lt, setOf-has, setOf-cong}
 use Rattle.semiautomata.specs.Walks.{reach, possible, longest}
 use Rattle.semiautomata.specs.Successors.{place, successors, Fit}

@@ -8,7 +8,7 @@ use native.Mathlib.Omega.{arith}
 use lib.Pow.{pow-pos}
 use lib.ListN.{length, getD, take, drop}
 use borrow.Author.Tests.{lt-ltb}
-use Rattle.bitset.specs.Sets.{has, setOf}
+use Rattle.bitset.specs.Numbers.{has, setOf}
 use Rattle.bitset.proofs.Below.{any-cong}
 use Rattle.bitset.proofs.Bits.{has-setOf, setOf-cong}
 use Rattle.bitset.proofs.Taking.{Left, Joined, joined-all}

@@ -10,7 +10,8 @@ use lib.Dec.{eqb}
 use lib.ListN.{length, getD, take, drop}
 use lib.Seq.{take-suc, take-length, drop-cons, drop-length}
 use borrow.Author.Tests.{lt-ltb, eqb-true, eq-eqb, ne-eqb}
-use Rattle.bitset.specs.Sets.{any, has, setOf}
+use Rattle.bitset.specs.Sets.{any}
+use Rattle.bitset.specs.Numbers.{has, setOf}
 use Rattle.bitset.proofs.Tests.{and-in, and-out, same-test}
 use Rattle.bitset.proofs.Below.{any-in, with-any, any-cong, any-none}
 use Rattle.bitset.proofs.Bits.{has-empty, has-lt, fits, some-member, setOf-lt, setOf-has, has-setOf, setOf-cong, has-shl}

@@ -6,7 +6,8 @@ use mathlib.Core.Path.{_≡_}
 use mathlib.Core.List.{List}
 use lib.Dec.{leb}
 use lib.ListN.{length, getD, drop}
-use Rattle.bitset.specs.Sets.{any, setOf}
+use Rattle.bitset.specs.Sets.{any}
+use Rattle.bitset.specs.Numbers.{setOf}
 
 -- some letter of the word is not below m, wherever it stands.
 abbrev pub letterOff : ℕ → List ℕ → Bool

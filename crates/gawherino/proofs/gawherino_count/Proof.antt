@@ -5,7 +5,7 @@ use mathlib.Core.Logic.{inl, inr}
 use native.Mathlib.Omega.{arith}
 use denote.Ref.{now}
 use Rattle.prepare.proofs.Promises.{shown-never, count-refused-so, count-never-so}
-use Rattle.semiautomata.specs.Outcomes.{refused, answered}
+use Rattle.refusals.specs.Outcomes.{refused, answered}
 use Rattle.prepare.proofs.Refusals.{count-passes, count-refuses}
 use Rattle.prepare.proofs.Answers.{small}
 use borrow.Author.Needs.{needs}

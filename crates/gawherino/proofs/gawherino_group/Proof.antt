@@ -2,7 +2,7 @@
 -- Assumes nothing.
 use mathlib.Core.Path.{ap, sym, _∙_}
 use native.Mathlib.Omega.{arith}
-use Rattle.plan.proofs.Groups.{nobody-high}
+use Rattle.refusals.proofs.Groups.{nobody-high}
 use Rattle.gawherino.specs.Numbers.{groupNumber}
 use borrow.Author.Needs.{needs}
 use Rattle.gawherino.proofs.gawherino_group.Statement.{statement}

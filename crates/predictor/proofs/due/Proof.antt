@@ -6,7 +6,7 @@ use mathlib.Core.List.{[], _∷_, _++_}
 use native.Mathlib.Omega.{arith}
 use lib.ListN.{length, take, drop}
 use lib.Seq.{length-take-le}
-use Rattle.bitset.specs.Sets.{has}
+use Rattle.bitset.specs.Numbers.{has}
 use Rattle.bitset.proofs.Bits.{has-lt, setOf-lt, setOf-cong}
 use Rattle.bitset.proofs.Members.{ones-size}
 use Rattle.semiautomata.specs.Successors.{successors}

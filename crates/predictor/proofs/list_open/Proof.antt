@@ -4,7 +4,7 @@ use Prim.Native.Nat.{suc, _+_, _-_, _^_, _≤_, _<_}
 use mathlib.Core.Path.{_≡_, refl, sym}
 use native.Mathlib.Omega.{arith}
 use lib.ListN.{length, take, drop, length-take, length-drop}
-use Rattle.bitset.specs.Sets.{has}
+use Rattle.bitset.specs.Numbers.{has}
 use Rattle.semiautomata.specs.Semiautomaton.{Semiautomaton}
 use Rattle.semiautomata.specs.Successors.{successors}
 use Rattle.semiautomata.specs.Streaming.{base}

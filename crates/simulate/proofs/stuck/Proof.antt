@@ -5,7 +5,8 @@ use mathlib.Core.Bool.{false, not}
 use mathlib.Core.Path.{_≡_, refl, sym, ap}
 use native.Mathlib.Numerals.{add-one}
 use native.Mathlib.Omega.{arith}
-use Rattle.bitset.specs.Sets.{any, has}
+use Rattle.bitset.specs.Sets.{any}
+use Rattle.bitset.specs.Numbers.{has}
 use Rattle.bitset.proofs.Below.{any-in}
 use Rattle.semiautomata.specs.Walks.{step}
 use Rattle.semiautomata.specs.Successors.{successors}

@@ -8,7 +8,8 @@ use lib.Dec.{ltb}
 use lib.ListN.{length}
 use borrow.Author.Needs.{needs}
 use borrow.Author.Tests.{lt-ltb, le-ltb}
-use Rattle.bitset.specs.Sets.{any, has}
+use Rattle.bitset.specs.Sets.{any}
+use Rattle.bitset.specs.Numbers.{has}
 use Rattle.bitset.proofs.Below.{any-none}
 use Rattle.bitset.proofs.Bits.{has-empty, some-member}
 use Rattle.semiautomata.specs.Walks.{Longest}

@@ -5,7 +5,8 @@ use mathlib.Core.Path.{_≡_}
 use native.Mathlib.Numerals.{add-one}
 use native.Mathlib.Omega.{arith}
 use lib.ListN.{length, getD}
-use Rattle.bitset.specs.Sets.{any, has}
+use Rattle.bitset.specs.Sets.{any}
+use Rattle.bitset.specs.Numbers.{has}
 use Rattle.bitset.proofs.Bits.{has-or, has-empty}
 use Rattle.table.proofs.union_of.Statement.{statement}
 use Rattle.table.proofs.union_of.Tie as tie

@@ -6,7 +6,8 @@ use mathlib.Core.Logic.{⊎-elim}
 use native.Mathlib.Omega.{arith}
 use lib.Count.{trailingZeros}
 use lib.ListN.{length, getD}
-use Rattle.bitset.specs.Sets.{any, has}
+use Rattle.bitset.specs.Sets.{any}
+use Rattle.bitset.specs.Numbers.{has}
 use Rattle.bitset.proofs.Bits.{meets-some, meets-none}
 use Rattle.bitset.proofs.Members.{strike-less}
 use Rattle.bitset.proofs.Taking.{Left, left-first, left-next, least-below, Picked, picked-first, picked-with, picked-without, picked-all}

@@ -5,7 +5,7 @@ use mathlib.Core.Path.{_≡_, sym}
 use native.Mathlib.Omega.{arith}
 use lib.ListN.{length, take}
 use lib.Seq.{take-all}
-use Rattle.bitset.specs.Sets.{has, setOf}
+use Rattle.bitset.specs.Numbers.{has, setOf}
 use Rattle.bitset.proofs.Bits.{setOf-lt, setOf-has}
 use Rattle.semiautomata.specs.Walks.{reach}
 use Rattle.walks.proofs.Steps.{bare, reach-bare}

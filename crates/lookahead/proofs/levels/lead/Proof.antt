@@ -8,7 +8,8 @@ use borrow.Author.Count.{below-more}
 use borrow.Author.Tests.{eq-eqb, ne-eqb}
 use lib.Bits.{bitAnd}
 use lib.ListN.{length}
-use Rattle.bitset.specs.Sets.{any, has}
+use Rattle.bitset.specs.Sets.{any}
+use Rattle.bitset.specs.Numbers.{has}
 use Rattle.bitset.proofs.Tests.{and-out}
 use Rattle.bitset.proofs.Bits.{has-and, has-test, and-fits}
 use Rattle.bitset.proofs.Members.{strike-less}

@@ -5,7 +5,7 @@ use mathlib.Core.Bool.{false, _&&_}
 use mathlib.Core.Path.{_≡_, sym, _∙_}
 use native.Mathlib.Omega.{arith}
 use lib.ListN.{getD}
-use Rattle.bitset.specs.Sets.{has}
+use Rattle.bitset.specs.Numbers.{has}
 use native.Mathlib.Nat.{mul-le-mul}
 use borrow.Author.Count.{below-more}
 use Rattle.semiautomata.proofs.Shares.{member-lt}

@@ -4,7 +4,7 @@ use Prim.Native.Nat.{_-_, _≤_}
 use mathlib.Core.Path.{_≡_}
 use native.Mathlib.Numerals.{add-one}
 use native.Mathlib.Omega.{arith}
-use Rattle.bitset.specs.Sets.{has}
+use Rattle.bitset.specs.Numbers.{has}
 use Rattle.text.specs.Lines.{listed, Appended}
 use Rattle.text.proofs.Lines.{appended-none, appended-on, appended-long, room-on, room-listed}
 use Rattle.text.proofs.line.members.Statement.{statement}

@@ -2,7 +2,7 @@
 -- Assumes nothing.
 use Prim.Native.Nat.{ℕ}
 use mathlib.Core.List.{List, _++_}
-use Rattle.bitset.specs.Sets.{has}
+use Rattle.bitset.specs.Numbers.{has}
 use Rattle.text.specs.Lines.{openWord, stakesAre, lineFeed, field, listed, openLine, Room, Appended}
 use Rattle.text.proofs.Lines.{room-left, room-on, appended-on}
 use borrow.Author.Needs.{needs}

@@ -1,7 +1,7 @@
 -- `refused` meets its contract.
 -- Assumes nothing.
 use mathlib.Core.List.{_++_}
-use Rattle.plan.specs.Groups.{groupOf}
+use Rattle.refusals.specs.Groups.{groupOf}
 use Rattle.text.specs.Lines.{refusedWord, groupWord, lineFeed, field, refusedLine, Room, Appended}
 use Rattle.text.proofs.Lines.{room-left, room-on, appended-on}
 use borrow.Author.Needs.{needs}

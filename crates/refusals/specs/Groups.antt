@@ -3,9 +3,9 @@
 use Prim.Native.Nat.{ℕ}
 use mathlib.Core.Bool.{cond, _||_}
 use lib.Dec.{eqb}
-use Rattle.semiautomata.specs.Plan.{within}
-use Rattle.plan.specs.declared.group.Group.{Group}
-use Rattle.plan.specs.declared.group.Group.the-variants.{Author, Caller, Logger, Nobody}
+use Rattle.refusals.specs.Checks.{within}
+use Rattle.refusals.specs.declared.Group.{Group}
+use Rattle.refusals.specs.declared.Group.the-variants.{Author, Caller, Logger, Nobody}
 
 abbrev pub groupOf : ℕ → Group
 groupOf x = cond (within 1 7 x || eqb x 15) Author (cond (within 8 10 x || eqb x 14) Caller (cond (within 11 13 x) Logger Nobody))

@@ -1,6 +1,6 @@
-// Who can cause which refusal.
+// Refusals: who can cause which. Their order in each call is a list of checks (specs/Checks).
 ghost use mathlib.Core.Path.{_≡_};
-ghost use Rattle.plan.specs.Groups.{groupOf};
+ghost use Rattle.refusals.specs.Groups.{groupOf};
 
 // The plan's author, the caller or the logger; nobody, where a number is no refusal.
 pub enum Group {

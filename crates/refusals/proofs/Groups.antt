@@ -5,9 +5,9 @@ use mathlib.Core.Bool.{true, false, and-false}
 use mathlib.Core.Path.{_≡_}
 use native.Mathlib.Omega.{arith}
 use borrow.Author.Tests.{le-leb, lt-leb, ne-eqb}
-use Rattle.semiautomata.specs.Plan.{within}
-use Rattle.plan.specs.Groups.{groupOf}
-use Rattle.plan.specs.declared.group.Group.the-variants.{Author, Caller, Logger, Nobody}
+use Rattle.refusals.specs.Checks.{within}
+use Rattle.refusals.specs.Groups.{groupOf}
+use Rattle.refusals.specs.declared.Group.the-variants.{Author, Caller, Logger, Nobody}
 
 module _ (x : ℕ) where
   inside : (a b : ℕ) → a ≤ x → x ≤ b → within a b x ≡ true

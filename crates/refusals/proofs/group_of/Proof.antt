@@ -1,11 +1,11 @@
--- `plan::group::group_of` meets its contract.
+-- `group_of` meets its contract.
 -- Assumes nothing.
 use mathlib.Core.Path.{ap, sym}
 use native.Mathlib.Omega.{arith}
-use Rattle.plan.specs.Groups.{groupOf}
-use Rattle.plan.proofs.Groups.{author, caller, logger, nobody-low, nobody-high}
-use Rattle.plan.proofs.group.group_of.Statement.{statement}
-use Rattle.plan.proofs.group.group_of.Tie as tie
+use Rattle.refusals.specs.Groups.{groupOf}
+use Rattle.refusals.proofs.Groups.{author, caller, logger, nobody-low, nobody-high}
+use Rattle.refusals.proofs.group_of.Statement.{statement}
+use Rattle.refusals.proofs.group_of.Tie as tie
 
 returns : tie.Need-returns
 returns c = logger (c .before .before .before .before .before .args .number) (omega arith) (omega arith)

@@ -1,0 +1,92 @@
+-- Laws of the first check of a list that applies.
+-- Assumes nothing.
+use Prim.Native.Nat.{ℕ, _≤_}
+use mathlib.Core.Bool.{Bool, true, false, cond, _&&_, and-eq-true-iff}
+use mathlib.Core.Path.{_≡_, refl}
+use mathlib.Core.Logic.{_↔_}
+use mathlib.Core.List.{List, [], _∷_, _++_}
+use native.Mathlib.Omega.{arith}
+use lib.Dec.{leb}
+use borrow.Author.Tests.{leb-true}
+use Rattle.refusals.specs.Checks.{Check, firstOf, within}
+
+-- the numbers of a list are from 1 to b; of a list that is written down this computes
+abbrev pub numbered : ℕ → List Check → Bool
+numbered b [] = true
+numbered b (c ∷ cs) = within 1 b (c .number) && numbered b cs
+
+abbrev pub Numbered : ℕ → List Check → Type 0
+Numbered b cs = numbered b cs ≡ true
+
+-- no check applies
+abbrev pub Passed : List Check → Type 0
+Passed [] = Unit {0}
+Passed (c ∷ cs) = (c .applies ≡ false) × Passed cs
+
+pub passed-first : (cs : List Check) → Passed cs → firstOf cs ≡ 0
+passed-first [] _ = refl
+passed-first (c ∷ cs) (e, p) = rw e (passed-first cs p)
+
+-- what the numbers of a list say of its first and of the others
+pub record Split (b : ℕ) (c : Check) (cs : List Check) : Type 0 where
+  pub low : 1 ≤ c .number
+  pub high : c .number ≤ b
+  pub rest : Numbered b cs
+
+pub split : (b : ℕ) (c : Check) (cs : List Check) → Numbered b (c ∷ cs) → Split b c cs
+split b c cs e =
+    let (x, r) = and-eq-true-iff (within 1 b (c .number)) _ .0 e in
+    let (l, h) = and-eq-true-iff (leb 1 (c .number)) _ .0 x in
+    record { low = leb-true _ _ l; high = leb-true _ _ h; rest = r }
+
+module _ (b : ℕ) where
+  pub first-le : (cs : List Check) → Numbered b cs → firstOf cs ≤ b
+  first-le [] _ = omega arith
+  first-le (c ∷ cs) n = let s = split b c cs n in go (c .applies) (s .high) (first-le cs (s .rest))
+    where
+      go : (x : Bool) → c .number ≤ b → firstOf cs ≤ b → cond x (c .number) (firstOf cs) ≤ b
+      go true h _ = h
+      go false _ h = h
+
+  -- nothing applies where the number is 0
+  pub first-passed : (cs : List Check) → Numbered b cs → firstOf cs ≡ 0 → Passed cs
+  first-passed [] _ _ = tt
+  first-passed (c ∷ cs) n z = let s = split b c cs n in go (c .applies) refl (s .low) (first-passed cs (s .rest)) z
+    where
+      go : (x : Bool) → c .applies ≡ x → 1 ≤ c .number → (firstOf cs ≡ 0 → Passed cs) → cond x (c .number) (firstOf cs) ≡ 0 → Passed (c ∷ cs)
+      go true _ l _ z = absurd (omega arith)
+      go false e _ f z = (e, f z)
+
+  -- behind a list of which none applies
+  pub first-behind : (cs ds : List Check) → Numbered b cs → firstOf cs ≡ 0 → firstOf (cs ++ ds) ≡ firstOf ds
+  first-behind cs ds n z = go cs (first-passed cs n z)
+    where
+      go : (cs : List Check) → Passed cs → firstOf (cs ++ ds) ≡ firstOf ds
+      go [] _ = refl
+      go (c ∷ cs) (e, p) = rw e (go cs p)
+
+  -- none of two lists applies
+  pub first-both : (cs ds : List Check) → Numbered b cs → (firstOf (cs ++ ds) ≡ 0) ↔ ((firstOf cs ≡ 0) × (firstOf ds ≡ 0))
+  first-both [] ds _ = (λ z. (refl, z), λ (_, z). z)
+  first-both (c ∷ cs) ds n = let s = split b c cs n in go (c .applies) (s .low) (first-both cs ds (s .rest))
+    where
+      go : (x : Bool) → 1 ≤ c .number → (firstOf (cs ++ ds) ≡ 0) ↔ ((firstOf cs ≡ 0) × (firstOf ds ≡ 0))
+          → (cond x (c .number) (firstOf (cs ++ ds)) ≡ 0) ↔ ((cond x (c .number) (firstOf cs) ≡ 0) × (firstOf ds ≡ 0))
+      go true l _ = (λ z. absurd (omega arith), λ (z, _). absurd (omega arith))
+      go false _ f = f
+
+  pub numbered-both : (cs ds : List Check) → Numbered b cs → Numbered b ds → Numbered b (cs ++ ds)
+  numbered-both [] ds _ n = n
+  numbered-both (c ∷ cs) ds n m =
+      let (x, r) = and-eq-true-iff (within 1 b (c .number)) _ .0 n in
+      and-eq-true-iff (within 1 b (c .number)) _ .1 (x, numbered-both cs ds r m)
+
+-- before a list of which one applies
+pub first-before : (cs ds : List Check) → ¬ (firstOf cs ≡ 0) → firstOf (cs ++ ds) ≡ firstOf cs
+first-before [] ds n = absurd (n refl)
+first-before (c ∷ cs) ds n = go (c .applies) (first-before cs ds) n
+  where
+    go : (x : Bool) → (¬ (firstOf cs ≡ 0) → firstOf (cs ++ ds) ≡ firstOf cs) → ¬ (cond x (c .number) (firstOf cs) ≡ 0)
+        → cond x (c .number) (firstOf (cs ++ ds)) ≡ cond x (c .number) (firstOf cs)
+    go true _ _ = refl
+    go false f n = f n
