@@ -2,9 +2,9 @@
 // A call answers one number, a value below 65,536 or 65,536 plus the refusal, and puts further values at the front of a lent slice.
 // Where that slice has too few places for the most that a call may have to put there, it is refused with 9 before anything is written.
 ghost use mathlib.Core.Path.{_≡_};
-ghost use mathlib.Core.List.{[], _∷_, _++_};
+ghost use mathlib.Core.List.{[], _∷_};
 ghost use Prim.Native.Nat.{_≤_};
-ghost use lib.ListN.{length, getD, drop};
+ghost use lib.ListN.{length, getD};
 ghost use Rattle.plan.specs.Bytes.{planChecks};
 ghost use Rattle.refusals.specs.Groups.{groupOf};
 ghost use Rattle.prepare.specs.Preparing.{Draws};
@@ -28,16 +28,6 @@ const REFUSED: u32 = 65536;
 const EVIDENCE: usize = 6;
 
 const POSITION: usize = 1;
-
-// Values at the front of a slice that keeps its rest.
-fn put(more: &mut [u32], values: &[u32])
-    requires { ⌜ length (now values) ≤ length (now more) ⌝ }
-    ensures { λ _. ⌜ now (more .exit) ≡ now (values .entry) ++ drop (length (now (values .entry))) (now (more .entry)) ⌝ }
-{
-    for i in 0..values.len() {
-        more[i] = values[i];
-    }
-}
 
 // A call on plan bytes that has no room for its further values: the reader's refusal, or 9.
 fn no_room_on_plan(plan: &[u8]) -> u32
@@ -80,7 +70,7 @@ pub extern "C" fn gawherino_read(plan: &[u8], counts: &mut [u32]) -> u32
     match reading {
         Reading::Refused(r) => REFUSED + r as u32,
         Reading::Counts { n, m, p, e } => {
-            put(counts, &[m as u32, p as u32, e as u32]);
+            slices::copy_32(counts, &[m as u32, p as u32, e as u32]);
             n as u32
         }
     }
@@ -95,7 +85,7 @@ fn pass_prepared(prepared: Prepared, evidence: &mut [u32]) -> u32
         Prepared::Ready(k) => k as u32,
         Prepared::Refused(r) => REFUSED + r as u32,
         Prepared::Unpredictable(e) => {
-            put(
+            slices::copy_32(
                 evidence,
                 &[e.state, e.letter, e.low, e.high, e.stem, e.cycle],
             );

@@ -37,11 +37,11 @@ cast-t18 c = search needs
 cast-t19 : tie.Need-cast-t19
 cast-t19 c = search needs
 
-slice-aggregate-put : tie.Need-slice-aggregate-put
-slice-aggregate-put c = search needs
+slice-aggregate-copy-32 : tie.Need-slice-aggregate-copy-32
+slice-aggregate-copy-32 c = search needs
 
-put-requires : tie.Need-put-requires
-put-requires c κs = search needs
+copy-32-requires : tie.Need-copy-32-requires
+copy-32-requires c κs = search needs
 
 cast-result-2 : tie.Need-cast-result-2
 cast-result-2 c = search needs
@@ -53,7 +53,7 @@ same-length : tie.Need-same-length
 same-length c = search needs
 
 returns-3 : tie.Need-returns-3
-returns-3 c = answers (omega arith) (c .before .before .before .before .before .before .before .before .read .result) (c .before .before .before .before .before .before .before .before .read .ensures) (rw (c .before .before .before .before .before .before .reading2 .given .1) (record { answered = refl; written = c .before .before .put .ensures }))
+returns-3 c = answers (omega arith) (c .before .before .before .before .before .before .before .before .read .result) (c .before .before .before .before .before .before .before .before .read .ensures) (rw (c .before .before .before .before .before .before .reading2 .given .1) (record { answered = refl; written = c .before .before .copy-32 .ensures }))
 
 pub gawherino-read-spec : {M : Type 1} → statement M
 gawherino-read-spec =
@@ -69,8 +69,8 @@ gawherino-read-spec =
     cast-t17
     cast-t18
     cast-t19
-    slice-aggregate-put
-    put-requires
+    slice-aggregate-copy-32
+    copy-32-requires
     cast-result-2
     returns-2
     same-length

@@ -24,11 +24,11 @@ add-result c = search needs
 enum-known-prepared-3 : tie.Need-enum-known-prepared-3
 enum-known-prepared-3 c = search needs
 
-slice-aggregate-put : tie.Need-slice-aggregate-put
-slice-aggregate-put c = search needs
+slice-aggregate-copy-32 : tie.Need-slice-aggregate-copy-32
+slice-aggregate-copy-32 c = search needs
 
-put-requires : tie.Need-put-requires
-put-requires c κs = search needs
+copy-32-requires : tie.Need-copy-32-requires
+copy-32-requires c κs = search needs
 
 add-result-2 : tie.Need-add-result-2
 add-result-2 c = search needs
@@ -43,7 +43,7 @@ same-length : tie.Need-same-length
 same-length c = search needs
 
 returns-3 : tie.Need-returns-3
-returns-3 c = rw (c .before .before .before .before .before .before .prepared3 .given .1) (record { answered = refl; written = c .before .before .put .ensures })
+returns-3 c = rw (c .before .before .before .before .before .before .prepared3 .given .1) (record { answered = refl; written = c .before .before .copy-32 .ensures })
 
 pub pass-prepared-spec : {M : Type 1} → statement M
 pass-prepared-spec =
@@ -55,8 +55,8 @@ pass-prepared-spec =
     cast-result-2
     add-result
     enum-known-prepared-3
-    slice-aggregate-put
-    put-requires
+    slice-aggregate-copy-32
+    copy-32-requires
     add-result-2
     returns
     returns-2

@@ -1,0 +1,47 @@
+// Little-endian numbers in bytes, as plans and records have them: read at a place, and written at a place of a buffer that keeps its rest.
+ghost use mathlib.Core.Path.{_≡_};
+ghost use Prim.Native.Nat.{_+_, _≤_, _<_};
+ghost use lib.ListN.{length};
+ghost use Rattle.endian.specs.Numbers.{numberAt, numbered};
+
+fn wide(x: u8) -> u32
+    ensures { λ r. ⌜ (r ≡ x) × (r < 256) ⌝ }
+{
+    x as u32
+}
+
+// The number of two bytes.
+pub fn read_2(bytes: &[u8], at: usize) -> u32
+    requires { ⌜ at + 2 ≤ length (now bytes) ⌝ }
+    ensures { λ r. ⌜ (r ≡ numberAt (now (bytes .entry)) at 2) × (r < 65536) ⌝ }
+{
+    wide(bytes[at]) + 256 * wide(bytes[at + 1])
+}
+
+// The number of four bytes.
+pub fn read_4(bytes: &[u8], at: usize) -> u32
+    requires { ⌜ at + 4 ≤ length (now bytes) ⌝ }
+    ensures { λ r. ⌜ r ≡ numberAt (now (bytes .entry)) at 4 ⌝ }
+{
+    let low = read_2(bytes, at);
+    let high = read_2(bytes, at + 2);
+    low + 65536 * high
+}
+
+pub fn write_2(bytes: &mut [u8], at: usize, x: u32)
+    requires { ⌜ at + 2 ≤ length (now bytes) ⌝ }
+    ensures { λ _. ⌜ now (bytes .exit) ≡ numbered (now (bytes .entry)) at 2 x ⌝ }
+{
+    bytes[at] = (x % 256) as u8;
+    bytes[at + 1] = (x / 256 % 256) as u8;
+}
+
+pub fn write_4(bytes: &mut [u8], at: usize, x: u32)
+    requires { ⌜ at + 4 ≤ length (now bytes) ⌝ }
+    ensures { λ _. ⌜ now (bytes .exit) ≡ numbered (now (bytes .entry)) at 4 x ⌝ }
+{
+    bytes[at] = (x % 256) as u8;
+    bytes[at + 1] = (x / 256 % 256) as u8;
+    bytes[at + 2] = (x / 256 / 256 % 256) as u8;
+    bytes[at + 3] = (x / 256 / 256 / 256 % 256) as u8;
+}

@@ -1,0 +1,54 @@
+-- `copy_8` meets its contract.
+-- Assumes nothing.
+use Prim.Native.Nat.{_-_, _≤_}
+use mathlib.Core.Path.{_≡_, refl}
+use native.Mathlib.Omega.{arith}
+use lib.ListN.{length}
+use Rattle.slices.proofs.Copying.{Copied, copied-none, copied-next, copied-all}
+use Rattle.slices.proofs.copy_8.Statement.{statement}
+use Rattle.slices.proofs.copy_8.Tie as tie
+
+abbrev Inv-loop : tie.InvT-loop
+Inv-loop out₀ from i₀ end out i = (end ≡ length from) × (i ≤ end) × Copied from out₀ i out
+
+abbrev μ-loop : tie.MeasureT-loop
+μ-loop out₀ from i₀ end out i = end - i
+
+loop-holds : tie.Need-loop-holds Inv-loop μ-loop
+loop-holds c = (refl, omega arith, copied-none _ _)
+
+shared-slice-read-out : tie.Need-shared-slice-read-out Inv-loop μ-loop
+shared-slice-read-out c = omega arith
+
+slice-write-out : tie.Need-slice-write-out Inv-loop μ-loop
+slice-write-out c = omega (arith, c .before .before .loop .inv .2 .long)
+
+add-i : tie.Need-add-i Inv-loop μ-loop
+add-i c = omega arith
+
+loop-less : tie.Need-loop-less Inv-loop μ-loop
+loop-less c = omega arith
+
+loop-again : tie.Need-loop-again Inv-loop μ-loop
+loop-again c = (c .before .before .loop .inv .0, omega arith, copied-next (c .before .before .loop .inv .2) (omega arith) (omega arith) refl)
+
+same-length : tie.Need-same-length Inv-loop μ-loop
+same-length c = c .before .loop .inv .2 .long
+
+returns : tie.Need-returns Inv-loop μ-loop
+returns c = copied-all (c .before .loop .inv .2) _ (omega arith) refl
+
+pub copy-8-spec : {M : Type 1} → statement M
+copy-8-spec =
+    tie.close
+    (tie.spec
+    Inv-loop
+    μ-loop
+    loop-holds
+    shared-slice-read-out
+    slice-write-out
+    add-i
+    loop-less
+    loop-again
+    same-length
+    returns)
