@@ -2,7 +2,8 @@
 ghost use mathlib.Core.Path.{_≡_};
 ghost use Prim.Native.Nat.{_+_, _≤_, _<_};
 ghost use lib.ListN.{length};
-ghost use Rattle.endian.specs.Numbers.{numberAt, numbered};
+ghost use Rattle.endian.specs.Numbers.{numberAt, bytesOf};
+ghost use Rattle.slices.specs.Copying.{pasted};
 
 fn wide(x: u8) -> u32
     ensures { λ r. ⌜ (r ≡ x) × (r < 256) ⌝ }
@@ -30,7 +31,7 @@ pub fn read_4(bytes: &[u8], at: usize) -> u32
 
 pub fn write_2(bytes: &mut [u8], at: usize, x: u32)
     requires { ⌜ at + 2 ≤ length (now bytes) ⌝ }
-    ensures { λ _. ⌜ now (bytes .exit) ≡ numbered (now (bytes .entry)) at 2 x ⌝ }
+    ensures { λ _. ⌜ now (bytes .exit) ≡ pasted (now (bytes .entry)) at (bytesOf 2 x) ⌝ }
 {
     bytes[at] = (x % 256) as u8;
     bytes[at + 1] = (x / 256 % 256) as u8;
@@ -38,7 +39,7 @@ pub fn write_2(bytes: &mut [u8], at: usize, x: u32)
 
 pub fn write_4(bytes: &mut [u8], at: usize, x: u32)
     requires { ⌜ at + 4 ≤ length (now bytes) ⌝ }
-    ensures { λ _. ⌜ now (bytes .exit) ≡ numbered (now (bytes .entry)) at 4 x ⌝ }
+    ensures { λ _. ⌜ now (bytes .exit) ≡ pasted (now (bytes .entry)) at (bytesOf 4 x) ⌝ }
 {
     bytes[at] = (x % 256) as u8;
     bytes[at + 1] = (x / 256 % 256) as u8;

@@ -3,12 +3,11 @@
 // that a leg is reported as it arrives. What could not be read or written is said on standard error, and nothing more is written.
 ghost use Prim.Native.Nat.{_≤_};
 ghost use lib.ListN.{length};
-ghost use Rattle.text.specs.Steps.{Readable};
+ghost use Rattle.steps.specs.Steps.{Readable};
 use libc::STDERR_FILENO;
 use libc::STDIN_FILENO;
 use libc::STDOUT_FILENO;
-use text::run;
-use text::run::Stage;
+use steps::Stage;
 
 // So many bytes of a buffer are written; answers whether they could be.
 fn print(out: &[u8], count: usize) -> bool
@@ -28,15 +27,15 @@ fn turn(
     requires { ⌜ Readable stage × (65535 ≤ length (now input)) ⌝ }
     ensures { λ r. ⌜ Readable r ⌝ }
 {
-    let from = run::from(stage);
-    let upto = run::upto(stage);
+    let from = steps::from(stage);
+    let upto = steps::upto(stage);
     let got = libc::read(STDIN_FILENO, &mut input[from..upto]);
     if got < 0 {
         io::write_all(STDERR_FILENO, b"report: standard input could not be read\n");
         return Stage::Over;
     }
     let end = from + io::count(got, &input[from..upto]);
-    let next = run::step(stage, &input[..end], table, rec, out);
+    let next = steps::step(stage, &input[..end], table, rec, out);
     let count = next.count;
     if !print(out, count) {
         io::write_all(
@@ -53,10 +52,10 @@ fn main() {
     let mut table = [0u64; 2052];
     let mut rec = [0u8; 2024];
     let mut out = [0u8; 551904];
-    let mut stage = run::first();
+    let mut stage = steps::first();
     // a proved loop has to end: no run uses up so many turns
     let mut turns = u64::MAX;
-    while turns > 0 && run::from(stage) < run::upto(stage) {
+    while turns > 0 && steps::from(stage) < steps::upto(stage) {
         stage = turn(stage, &mut input, &mut table, &mut rec, &mut out);
         turns -= 1;
     }

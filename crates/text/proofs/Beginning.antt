@@ -21,10 +21,10 @@ use Rattle.plan.proofs.Readings.{reading-refused, reading-well}
 use Rattle.prepare.proofs.Refusals.{square, prepare-clear}
 use Rattle.text.specs.declared.Printed.{Printed}
 use Rattle.text.specs.declared.Printed.the-variants.{Going, Ended, Short}
-use Rattle.text.specs.Lines.{countsLine, lookaheadLine, refusedLine, Appended}
+use Rattle.lines.specs.Lines.{countsLine, lookaheadLine, refusedLine, Appended}
 use Rattle.text.specs.Report.{totalOf, planOf, lettersOf, noPlan, countsOf, AfterLookahead, AfterCounts, never, predicts, Reports, no-plan, ill-formed, well-formed}
 use Rattle.text.specs.Calls.{tableSize, Laid, Lays, over, Leaves, read, ReportText, Roomy, Begins}
-use Rattle.text.proofs.Lines.{appended-on}
+use Rattle.lines.proofs.Lines.{appended-on}
 
 -- a line before what follows
 module _ (says says′ : List ℕ → List ℕ → Type 0) {old : List ℕ} {at : ℕ} {a : List ℕ} {r : ℕ} {mid : List ℕ} (p : Appended old at a r mid)

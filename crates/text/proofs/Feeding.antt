@@ -11,10 +11,10 @@ use lib.Seq.{drop-cons}
 use Rattle.semiautomata.specs.Calls.{Reply}
 use Rattle.predictor.specs.Calls.{fedOn}
 use Rattle.predictor.specs.Parts.{isRefusal}
-use Rattle.text.specs.Lines.{Appended}
+use Rattle.lines.specs.Lines.{Appended}
 use Rattle.text.specs.Report.{replyText, walkText}
 use Rattle.text.specs.Calls.{letterWidth, openOn, walkOn, Laid, fedUpto, FedText}
-use Rattle.text.proofs.Lines.{appended-none, appended-on}
+use Rattle.lines.proofs.Lines.{appended-none, appended-on}
 
 -- the first i letters are fed, and the record is `left`
 pub record Upto (table bytes letters old : List ℕ) (i : ℕ) (left out : List ℕ) (at : ℕ) : Type 0 where

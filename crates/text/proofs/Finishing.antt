@@ -10,11 +10,11 @@ use lib.Seq.{take-suc, take-all, take-at, length-take-le}
 use borrow.Author.Tests.{ne-eqb}
 use Rattle.records.specs.Bytes.{decode}
 use Rattle.predictor.specs.Calls.{endRefusal, ended}
-use Rattle.text.specs.Lines.{refusedLine, openLine, Room, Appended}
+use Rattle.lines.specs.Lines.{refusedLine, openLine, Room, Appended}
 use Rattle.text.specs.Report.{openLines, openText}
 use Rattle.text.specs.Calls.{mostSets, openWidth, openOn}
-use Rattle.text.proofs.Lines.{appended-none, appended-on, appended-long}
-use Rattle.text.proofs.Widths.{open-width}
+use Rattle.lines.proofs.Lines.{appended-none, appended-on, appended-long}
+use Rattle.lines.proofs.Widths.{open-width}
 
 open-snoc : (first : ℕ) (sets : List ℕ) (set : ℕ) → openLines first (sets ++ (set ∷ [])) ≡ openLines first sets ++ openLine (first + length sets) set
 unfolding openLines

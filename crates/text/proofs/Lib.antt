@@ -1,10 +1,4 @@
-pub mod Lines
-pub mod Widths
 pub mod Feeding
 pub mod Finishing
 pub mod Agreeing
 pub mod Beginning
-pub mod Stepping
-pub mod Running
-pub mod Sample
-pub mod Theorems

@@ -16,7 +16,7 @@ use Rattle.predictor.specs.Calls.{openedOn, fedOn, endRefusal, ended}
 use Rattle.predictor.specs.Parts.{isRefusal}
 use Rattle.text.specs.declared.Printed.{Printed}
 use Rattle.text.specs.declared.Printed.the-variants.{Going, Ended, Short}
-use Rattle.text.specs.Lines.{refusedLine, Appended}
+use Rattle.lines.specs.Lines.{refusedLine, Appended}
 use Rattle.text.specs.Report.{planOf, lettersOf, noPlan, openText, walkText, Reports}
 
 -- What is lent: sets for an ending, numbers for a table, bytes for a record; bytes that the first lines, the line of a letter and an open

@@ -1,5 +1,2 @@
-pub mod Lines
 pub mod Report
 pub mod Calls
-pub mod Steps
-pub mod Theorems

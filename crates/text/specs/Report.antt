@@ -15,7 +15,7 @@ use Rattle.semiautomata.specs.Streaming.{unresolved}
 use Rattle.plan.specs.declared.Header.{Header}
 use Rattle.plan.specs.Bytes.{headerOf, meaning, refusal, WellFormed}
 use Rattle.predictor.specs.Parts.{isRefusal}
-use Rattle.text.specs.Lines.{countsLine, lookaheadLine, refusedLine, resolutionLine, openLine}
+use Rattle.lines.specs.Lines.{countsLine, lookaheadLine, refusedLine, resolutionLine, openLine}
 
 -- THE INPUT: plan bytes, then one byte a letter. The plan is as long as its total says.
 abbrev pub totalOf : List ℕ → ℕ

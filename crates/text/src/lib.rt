@@ -11,7 +11,7 @@ ghost use Rattle.records.specs.Bytes.{numberAt};
 ghost use Rattle.predictor.specs.Replies.{said};
 ghost use Rattle.predictor.specs.Calls.{openedOn};
 ghost use Rattle.predictor.specs.Parts.{isRefusal};
-ghost use Rattle.text.specs.Lines.{Appended};
+ghost use Rattle.lines.specs.Lines.{Appended};
 ghost use Rattle.text.specs.Report.{totalOf, noPlan, replyText, openLines, AfterLookahead, AfterCounts};
 ghost use Rattle.text.specs.Calls.{mostSets, tableSize, recordSize, letterWidth, openWidth, over, printedOf};
 ghost use Rattle.text.specs.Calls.{FeedsPart, Finishes, Lays, Leaves, Begins};
@@ -19,9 +19,6 @@ use plan::Reading;
 use predictor::Answer;
 use predictor::Ended;
 use prepare::Prepared;
-
-mod line;
-pub mod run;
 
 // What a call printed: so many bytes, and the report goes on, or they end it (a walk, but for its open lines); or too few bytes are lent.
 pub enum Printed {
@@ -38,8 +35,8 @@ fn reply(out: &mut [u8], at: usize, answer: Answer) -> usize
     ensures { λ r. ⌜ Appended (now (out .entry)) at (replyText (said answer)) r (now (out .exit)) × (r ≤ at + letterWidth) ⌝ }
 {
     match answer {
-        Answer::Refused(number) => line::refused(out, at, number),
-        Answer::Resolved { position, state } => line::resolution(out, at, position, state),
+        Answer::Refused(number) => lines::refused(out, at, number),
+        Answer::Resolved { position, state } => lines::resolution(out, at, position, state),
         Answer::Nothing => at,
     }
 }
@@ -109,11 +106,11 @@ fn prepared(plan: &[u8], table: &mut [u64], rec: &mut [u8], out: &mut [u8], at: 
     let prepared = prepare::prepare(plan, table, &mut letters);
     match prepared {
         Prepared::Ready(k) => {
-            let end = line::lookahead(out, at, k);
+            let end = lines::lookahead(out, at, k);
             opened(table, rec, out, end)
         }
-        Prepared::Refused(number) => Printed::Ended(line::refused(out, at, number)),
-        Prepared::Unpredictable(_) => Printed::Ended(line::refused(out, at, 15)),
+        Prepared::Refused(number) => Printed::Ended(lines::refused(out, at, number)),
+        Prepared::Unpredictable(_) => Printed::Ended(lines::refused(out, at, 15)),
     }
 }
 
@@ -125,15 +122,15 @@ pub fn begin(input: &[u8], table: &mut [u64], rec: &mut [u8], out: &mut [u8]) ->
         return Printed::Short;
     }
     if no_plan(input) {
-        return Printed::Ended(line::refused(out, 0, 1));
+        return Printed::Ended(lines::refused(out, 0, 1));
     }
     let end = total(input);
     let plan = &input[..end];
     let reading = plan::read(plan);
     match reading {
-        Reading::Refused(number) => Printed::Ended(line::refused(out, 0, number)),
+        Reading::Refused(number) => Printed::Ended(lines::refused(out, 0, number)),
         Reading::Counts { n, m, p, e } => {
-            let at = line::counts(out, 0, n, m, p, e);
+            let at = lines::counts(out, 0, n, m, p, e);
             prepared(plan, table, rec, out, at)
         }
     }
@@ -186,7 +183,7 @@ fn open_lines(out: &mut [u8], first: usize, sets: &[u64]) -> usize
 {
     let mut at = 0;
     for i in 0..sets.len() {
-        at = line::open_line(out, at, first + i, sets[i]);
+        at = lines::open_line(out, at, first + i, sets[i]);
     }
     at
 }
@@ -201,7 +198,7 @@ pub fn finish(table: &[u64], rec: &[u8], out: &mut [u8]) -> Printed
     let mut sets = [0u64; 2016];
     let ended = predictor::finish(table, rec, &mut sets);
     match ended {
-        Ended::Refused(number) => Printed::Ended(line::refused(out, 0, number)),
+        Ended::Refused(number) => Printed::Ended(lines::refused(out, 0, number)),
         Ended::Open(count) => {
             let first = less(fed_of(rec) + 1, count);
             Printed::Ended(open_lines(out, first, &sets[..count]))

@@ -9,11 +9,11 @@ use lib.ListN.{length, take}
 use lib.Seq.{length-take-le}
 use Rattle.plan.specs.declared.Reading.the-variants.{Counts, Refused}
 use Rattle.plan.specs.Bytes.{outcomeOfReading, reading}
-use Rattle.text.specs.Lines.{countsLine}
+use Rattle.lines.specs.Lines.{countsLine}
 use Rattle.text.specs.Report.{noPlan, planOf}
 use Rattle.text.specs.Calls.{tableSize, recordSize, beginWidth, unread}
-use Rattle.text.proofs.Lines.{appended-long}
-use Rattle.text.proofs.Widths.{counts-width, refused-width}
+use Rattle.lines.proofs.Lines.{appended-long}
+use Rattle.lines.proofs.Widths.{counts-width, refused-width}
 use Rattle.text.proofs.Beginning.{three-long, whole, read-well, begun-no-plan, begun-ill, begun-well}
 use borrow.Author.Needs.{needs}
 use Rattle.text.proofs.begin.Statement.{statement}

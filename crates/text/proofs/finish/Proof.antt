@@ -6,7 +6,7 @@ use native.Mathlib.Omega.{arith}
 use lib.ListN.{length, replicate}
 use lib.Seq.{length-take-le}
 use Rattle.predictor.specs.Calls.{ended}
-use Rattle.text.proofs.Widths.{refused-width}
+use Rattle.lines.proofs.Widths.{refused-width}
 use Rattle.text.proofs.Finishing.{finished-refused, finished-open, ended-few}
 use borrow.Author.Needs.{needs}
 use Rattle.text.proofs.finish.Statement.{statement}

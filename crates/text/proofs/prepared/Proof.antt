@@ -8,8 +8,8 @@ use Rattle.plan.specs.Bytes.{meaning}
 use Rattle.prepare.specs.Preparing.{Tabled}
 use Rattle.prepare.proofs.Promises.{shown-never, prepare-refused-so}
 use Rattle.text.specs.Calls.{unpredictable, opens}
-use Rattle.text.proofs.Lines.{appended-long}
-use Rattle.text.proofs.Widths.{lookahead-width, refused-width}
+use Rattle.lines.proofs.Lines.{appended-long}
+use Rattle.lines.proofs.Widths.{lookahead-width, refused-width}
 use Rattle.text.proofs.Beginning.{prepare-taken, counted, never-counted}
 use borrow.Author.Needs.{needs}
 use Rattle.text.proofs.prepared.Statement.{statement}

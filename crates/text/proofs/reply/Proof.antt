@@ -3,9 +3,9 @@
 use Prim.Native.Nat.{_≤_}
 use native.Mathlib.Omega.{arith}
 use lib.ListN.{length}
-use Rattle.text.specs.Lines.{refusedLine, resolutionLine}
-use Rattle.text.proofs.Lines.{appended-none}
-use Rattle.text.proofs.Widths.{refused-width, resolution-width}
+use Rattle.lines.specs.Lines.{refusedLine, resolutionLine}
+use Rattle.lines.proofs.Lines.{appended-none}
+use Rattle.lines.proofs.Widths.{refused-width, resolution-width}
 use borrow.Author.Needs.{needs}
 use Rattle.text.proofs.reply.Statement.{statement}
 use Rattle.text.proofs.reply.Tie as tie

@@ -1,0 +1,25 @@
+-- `field` meets its contract.
+-- Assumes nothing.
+use Rattle.lines.specs.Lines.{decimal, field}
+use Rattle.lines.proofs.Lines.{room-left, room-on, appended-on}
+use borrow.Author.Needs.{needs}
+use Rattle.lines.proofs.field.Statement.{statement}
+use Rattle.lines.proofs.field.Tie as tie
+
+append-requires : tie.Need-append-requires
+unfolding field
+append-requires c κs = let s = c .before .before .before in room-left (s .args .word .now) (decimal (s .args .x)) (s .pre)
+
+number-requires : tie.Need-number-requires
+unfolding field
+number-requires c κs = room-on (c .before .before .before .append .ensures) (c .before .before .before .before .before .before .before .pre)
+
+same-length : tie.Need-same-length
+same-length c = search needs
+
+returns : tie.Need-returns
+unfolding field
+returns c = appended-on (c .before .before .before .before .before .before .append .ensures) (c .before .before .number .ensures)
+
+pub field-spec : {M : Type 1} → statement M
+field-spec = tie.close (tie.spec append-requires number-requires same-length returns)

@@ -1,0 +1,55 @@
+-- `members` meets its contract. Between two turns the states below s are listed.
+-- Assumes nothing.
+use Prim.Native.Nat.{_-_, _≤_}
+use mathlib.Core.Path.{_≡_}
+use native.Mathlib.Numerals.{add-one}
+use native.Mathlib.Omega.{arith}
+use Rattle.bitset.specs.Numbers.{has}
+use Rattle.lines.specs.Lines.{listed, Appended}
+use Rattle.lines.proofs.Lines.{appended-none, appended-on, appended-long, room-on, room-listed}
+use Rattle.lines.proofs.members.Statement.{statement}
+use Rattle.lines.proofs.members.Tie as tie
+
+abbrev Inv-loop : tie.InvT-loop
+Inv-loop out₀ at set end₀ s₀ out end s = (s ≤ 64) × Appended out₀ at (listed s (has set)) end out
+
+abbrev μ-loop : tie.MeasureT-loop
+μ-loop out₀ at set end₀ s₀ out end s = 64 - s
+
+loop-holds : tie.Need-loop-holds Inv-loop μ-loop
+unfolding listed
+loop-holds c = let s = c .before in (omega arith, appended-none (s .args .at) (omega (arith, s .pre .fits)))
+
+member-requires : tie.Need-member-requires Inv-loop μ-loop
+unfolding listed
+member-requires c κs = let i = c .before .before .loop in room-on (i .inv .1) (room-listed 64 (has (c .before .before .before .before .args .set)) (c .before .before .before .before .pre) (i .s) (omega arith))
+
+add-s : tie.Need-add-s Inv-loop μ-loop
+add-s c = omega arith
+
+loop-less : tie.Need-loop-less Inv-loop μ-loop
+loop-less c = omega arith
+
+loop-again : tie.Need-loop-again Inv-loop μ-loop
+unfolding listed
+loop-again c = (omega arith, rw (add-one, listed) (appended-on (c .before .before .before .before .before .loop .inv .1) (c .before .before .member .ensures)))
+
+same-length : tie.Need-same-length Inv-loop μ-loop
+same-length c = appended-long (c .before .loop .inv .1)
+
+returns : tie.Need-returns Inv-loop μ-loop
+returns c = let i = c .before .loop in let e : i .s ≡ 64 = omega arith in rw e at (i .inv .1)
+
+pub members-spec : {M : Type 1} → statement M
+members-spec =
+    tie.close
+    (tie.spec
+    Inv-loop
+    μ-loop
+    loop-holds
+    member-requires
+    add-s
+    loop-less
+    loop-again
+    same-length
+    returns)

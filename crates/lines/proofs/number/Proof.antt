@@ -1,0 +1,41 @@
+-- `number` meets its contract.
+-- Assumes nothing.
+use mathlib.Core.Path.{_≡_, _∙_}
+use lib.ListN.{take}
+use Rattle.lines.specs.Lines.{decimal}
+use Rattle.lines.proofs.Lines.{written-digits}
+use borrow.Author.Needs.{needs}
+use Rattle.lines.proofs.number.Statement.{statement}
+use Rattle.lines.proofs.number.Tie as tie
+
+written : (c : tie.After-decimal) → take (c .decimal .result) (c .decimal .last .1 .0) ≡ decimal (c .before .before .before .args .x)
+written c = c .decimal .ensures .1 .1 ∙ written-digits _ _ (c .decimal .ensures .1 .0)
+
+decimal-requires : tie.Need-decimal-requires
+decimal-requires c κs = search needs
+
+array-share-prefix-digits : tie.Need-array-share-prefix-digits
+array-share-prefix-digits c = search needs
+
+slice-aggregate-append : tie.Need-slice-aggregate-append
+slice-aggregate-append c = search needs
+
+append-requires : tie.Need-append-requires
+append-requires c κs = rw (written (c .before .before)) (c .before .before .before .before .before .pre)
+
+same-length : tie.Need-same-length
+same-length c = search needs
+
+returns : tie.Need-returns
+returns c = rw (written (c .before .before .before .before .before)) at (c .before .before .append .ensures)
+
+pub number-spec : {M : Type 1} → statement M
+number-spec =
+    tie.close
+    (tie.spec
+    decimal-requires
+    array-share-prefix-digits
+    slice-aggregate-append
+    append-requires
+    same-length
+    returns)

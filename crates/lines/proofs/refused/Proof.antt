@@ -1,0 +1,56 @@
+-- `refused` meets its contract.
+-- Assumes nothing.
+use mathlib.Core.List.{_++_}
+use Rattle.refusals.specs.Groups.{groupOf}
+use Rattle.lines.specs.Lines.{refusedWord, groupWord, lineFeed, field, refusedLine, Room, Appended}
+use Rattle.lines.proofs.Lines.{room-left, room-on, appended-on}
+use borrow.Author.Needs.{needs}
+use Rattle.lines.proofs.refused.Statement.{statement}
+use Rattle.lines.proofs.refused.Tie as tie
+
+both : (s : tie.Start) → Room (s .args .out .now) (s .args .at) (field refusedWord (s .args .number) ++ groupWord (groupOf (s .args .number)))
+unfolding refusedLine
+both s = room-left (field refusedWord (s .args .number) ++ groupWord (groupOf (s .args .number))) lineFeed (s .pre)
+
+put : (c : tie.After-group) → let s = c .before .before .before .before .before .before .before .before .before in
+    Appended (s .args .out .now) (s .args .at) (field refusedWord (s .args .number) ++ groupWord (groupOf (s .args .number))) (c .group .result) (c .group .last .0)
+put c = appended-on (c .before .before .before .before .before .field .ensures) (rw (c .before .group-of .ensures) at (c .group .ensures))
+
+slice-aggregate-field : tie.Need-slice-aggregate-field
+slice-aggregate-field c = search needs
+
+field-requires : tie.Need-field-requires
+field-requires c κs = let s = c .before .before .before in room-left (field refusedWord (s .args .number)) (groupWord (groupOf (s .args .number))) (both s)
+
+group-of-requires : tie.Need-group-of-requires
+group-of-requires c κs = search needs
+
+group-requires : tie.Need-group-requires
+group-requires c κs = rw (c .group-of .ensures) (room-on (c .before .before .before .before .field .ensures) (both (c .before .before .before .before .before .before .before .before)))
+
+slice-aggregate-append : tie.Need-slice-aggregate-append
+slice-aggregate-append c = search needs
+
+append-requires : tie.Need-append-requires
+unfolding refusedLine
+append-requires c κs = room-on (put (c .before .before .before .before)) (c .before .before .before .before .before .before .before .before .before .before .before .before .before .pre)
+
+same-length : tie.Need-same-length
+same-length c = search needs
+
+returns : tie.Need-returns
+unfolding refusedLine
+returns c = appended-on (put (c .before .before .before .before .before .before .before)) (c .before .before .append .ensures)
+
+pub refused-spec : {M : Type 1} → statement M
+refused-spec =
+    tie.close
+    (tie.spec
+    slice-aggregate-field
+    field-requires
+    group-of-requires
+    group-requires
+    slice-aggregate-append
+    append-requires
+    same-length
+    returns)

@@ -1,0 +1,115 @@
+// The report's lines, each written at a place of a buffer that keeps the rest; the answer is the place behind the line.
+ghost use mathlib.Core.Bool.{cond};
+ghost use mathlib.Core.List.{[]};
+ghost use Rattle.bitset.specs.Numbers.{has};
+ghost use Rattle.lines.specs.Lines.{decimal, field as Lines·field, space, groupWord, countsLine, lookaheadLine, refusedLine, resolutionLine, listed, openLine, Room, Appended};
+use refusals::Group;
+
+// Bytes, as they are.
+fn append(out: &mut [u8], at: usize, bytes: &[u8]) -> usize
+    requires { ⌜ Room (now out) at (now bytes) ⌝ }
+    ensures { λ r. ⌜ Appended (now (out .entry)) at (now (bytes .entry)) r (now (out .exit)) ⌝ }
+{
+    slices::copy_8(&mut out[at..], bytes);
+    at + bytes.len()
+}
+
+fn number(out: &mut [u8], at: usize, x: u64) -> usize
+    requires { ⌜ Room (now out) at (decimal x) ⌝ }
+    ensures { λ r. ⌜ Appended (now (out .entry)) at (decimal x) r (now (out .exit)) ⌝ }
+{
+    let mut digits = [0u8; 20];
+    let count = io::decimal(x, &mut digits);
+    append(out, at, &digits[..count])
+}
+
+// A word and its number.
+fn field(out: &mut [u8], at: usize, word: &[u8], x: u64) -> usize
+    requires { ⌜ Room (now out) at (Lines·field (now word) x) ⌝ }
+    ensures { λ r. ⌜ Appended (now (out .entry)) at (Lines·field (now (word .entry)) x) r (now (out .exit)) ⌝ }
+{
+    let end = append(out, at, word);
+    number(out, end, x)
+}
+
+pub fn counts(out: &mut [u8], at: usize, n: u16, m: u16, p: u16, e: u16) -> usize
+    requires { ⌜ Room (now out) at (countsLine n m p e) ⌝ }
+    ensures { λ r. ⌜ Appended (now (out .entry)) at (countsLine n m p e) r (now (out .exit)) ⌝ }
+{
+    let states = field(out, at, b"stakes ", n as u64);
+    let letters = field(out, states, b" codes ", m as u64);
+    let starts = field(out, letters, b" starts ", p as u64);
+    let lines = field(out, starts, b" lines ", e as u64);
+    append(out, lines, b"\n")
+}
+
+pub fn lookahead(out: &mut [u8], at: usize, k: usize) -> usize
+    requires { ⌜ Room (now out) at (lookaheadLine k) ⌝ }
+    ensures { λ r. ⌜ Appended (now (out .entry)) at (lookaheadLine k) r (now (out .exit)) ⌝ }
+{
+    let end = field(out, at, b"look-ahead ", k as u64);
+    append(out, end, b"\n")
+}
+
+fn group(out: &mut [u8], at: usize, who: Group) -> usize
+    requires { ⌜ Room (now out) at (groupWord who) ⌝ }
+    ensures { λ r. ⌜ Appended (now (out .entry)) at (groupWord who) r (now (out .exit)) ⌝ }
+{
+    match who {
+        Group::Author => append(out, at, b" author"),
+        Group::Caller => append(out, at, b" caller"),
+        Group::Logger => append(out, at, b" logger"),
+        Group::Nobody => append(out, at, b""),
+    }
+}
+
+pub fn refused(out: &mut [u8], at: usize, number: u8) -> usize
+    requires { ⌜ Room (now out) at (refusedLine number) ⌝ }
+    ensures { λ r. ⌜ Appended (now (out .entry)) at (refusedLine number) r (now (out .exit)) ⌝ }
+{
+    let end = field(out, at, b"refused ", number as u64);
+    let who = group(out, end, refusals::group_of(number));
+    append(out, who, b"\n")
+}
+
+pub fn resolution(out: &mut [u8], at: usize, position: u32, state: u8) -> usize
+    requires { ⌜ Room (now out) at (resolutionLine position state) ⌝ }
+    ensures { λ r. ⌜ Appended (now (out .entry)) at (resolutionLine position state) r (now (out .exit)) ⌝ }
+{
+    let end = field(out, at, b"at ", position as u64);
+    let state_end = field(out, end, b" stake ", state as u64);
+    append(out, state_end, b"\n")
+}
+
+// A state, if the set has it, behind a space.
+fn member(out: &mut [u8], at: usize, set: u64, s: u32) -> usize
+    requires { ⌜ Room (now out) at (cond (has set s) (Lines·field space s) []) ⌝ }
+    ensures { λ r. ⌜ Appended (now (out .entry)) at (cond (has set s) (Lines·field space s) []) r (now (out .exit)) ⌝ }
+{
+    if bitset::contains(set, s) {
+        field(out, at, b" ", s as u64)
+    } else {
+        at
+    }
+}
+
+fn members(out: &mut [u8], at: usize, set: u64) -> usize
+    requires { ⌜ Room (now out) at (listed 64 (has set)) ⌝ }
+    ensures { λ r. ⌜ Appended (now (out .entry)) at (listed 64 (has set)) r (now (out .exit)) ⌝ }
+{
+    let mut end = at;
+    for s in 0..64u32 {
+        end = member(out, end, set, s);
+    }
+    end
+}
+
+pub fn open_line(out: &mut [u8], at: usize, position: usize, set: u64) -> usize
+    requires { ⌜ Room (now out) at (openLine position set) ⌝ }
+    ensures { λ r. ⌜ Appended (now (out .entry)) at (openLine position set) r (now (out .exit)) ⌝ }
+{
+    let end = field(out, at, b"open ", position as u64);
+    let word = append(out, end, b" stakes");
+    let states = members(out, word, set);
+    append(out, states, b"\n")
+}

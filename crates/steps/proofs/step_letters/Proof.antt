@@ -1,0 +1,63 @@
+-- `step_letters` meets its contract.
+-- Assumes nothing.
+use native.Mathlib.Omega.{arith}
+use Rattle.steps.specs.Steps.{feeds, feeds-last, finishes}
+use Rattle.steps.proofs.Stepping.{readable-letters, readable-over}
+use borrow.Author.Needs.{needs}
+use Rattle.steps.proofs.step_letters.Statement.{statement}
+use Rattle.steps.proofs.step_letters.Tie as tie
+
+finish-at-requires : tie.Need-finish-at-requires
+finish-at-requires c κs = search needs
+
+returns : tie.Need-returns
+returns c = (finishes (c .before .before .before .before .before .if1 .taken) (c .finish-at .ensures), readable-over)
+
+feed-requires : tie.Need-feed-requires
+feed-requires c κs = search needs
+
+enum-known-printed : tie.Need-enum-known-printed
+enum-known-printed c = search needs
+
+enum-known-printed-2 : tie.Need-enum-known-printed-2
+enum-known-printed-2 c = search needs
+
+finish-at-requires-2 : tie.Need-finish-at-requires-2
+finish-at-requires-2 c κs =
+    let f = c .before .before .before .before .before .before .before .feed in
+    let few = rw (c .before .before .before .before .before .printed2 .given .1) at (f .ensures .1) in
+    let s = c .before .before .before .before .before .before .before .before .before .before .before .before .before in
+    omega (arith, s .pre, few, s .good, f .kept .1 .1 .1 .0)
+
+enum-told : tie.Need-enum-told
+enum-told c = search needs
+
+returns-2 : tie.Need-returns-2
+returns-2 c =
+    let came = c .before .before .before .before .before .before .before .if1 .left in
+    (feeds (omega (arith, came)) (rw (c .before .printed .given .1) at (c .before .before .before .feed .ensures .0)), readable-letters)
+
+returns-3 : tie.Need-returns-3
+returns-3 c =
+    let f = c .before .before .before .before .before .before .before .before .feed .ensures .0 in
+    (feeds-last (rw (c .before .before .before .before .before .before .printed2 .given .1) at f) (c .finish-at2 .ensures), readable-over)
+
+returns-4 : tie.Need-returns-4
+returns-4 c =
+    let s = c .before .before .before .before .before .before .before .before in
+    absurd (omega (arith, s .pre, s .good, (rw (c .enum-told .given .1) at (c .before .before .feed .ensures .0)) .0))
+
+pub step-letters-spec : {M : Type 1} → statement M
+step-letters-spec =
+    tie.close
+    (tie.spec
+    finish-at-requires
+    returns
+    feed-requires
+    enum-known-printed
+    enum-known-printed-2
+    finish-at-requires-2
+    enum-told
+    returns-2
+    returns-3
+    returns-4)
