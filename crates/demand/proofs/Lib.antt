@@ -1,4 +1,4 @@
-pub mod Records
+pub mod Feeding
 pub mod Theorems
 pub mod Rows
 pub mod Sample

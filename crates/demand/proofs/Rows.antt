@@ -1,4 +1,4 @@
--- Plans A to H as bytes: tests computed over the whole table, and one law that turns them into what each row says.
+-- What is said of plans A to H: tests computed over the whole table, and one law that turns them into what each row says.
 -- Assumes nothing.
 use Prim.Native.Nat.{ℕ, zero, suc, _-_, _*_, _/_, _≤_, _<_}
 use mathlib.Core.Bool.{Bool, true, false, not, _&&_, false≢true}
@@ -20,16 +20,16 @@ use Rattle.semiautomata.specs.Walks.{Longest, PossibleAt, spells, step, possibl
 use Rattle.semiautomata.specs.Selectors.{selector, minimalSelector, maximalNonselector}
 use Rattle.semiautomata.specs.Levels.{live, clashIn, clash}
 use Rattle.refusals.specs.Outcomes.{Outcome, refused, answered}
-use Rattle.semiautomata.proofs.Levels.{with-and}
 use Rattle.semiautomata.proofs.Shares.{lookahead-unique, lookahead-predicts}
-use Rattle.semiautomata.proofs.Decide.{clash-out, clash-in, some-shorter, lookahead-first, some-witness, witness-unpredictable}
 use Rattle.semiautomata.proofs.Computed.{longest-unique}
 use Rattle.plan.specs.Bytes.{meaning, refusal, WellFormed}
 use Rattle.plan.proofs.Refusals.{well-formed-within}
 use Rattle.prepare.specs.declared.Prepared.{Prepared}
 use Rattle.prepare.specs.Preparing.{LooksAhead, asNumber, Draws}
 use Rattle.prepare.specs.Theorems.{Right}
-use Rattle.demand.specs.Rows.{Saying, walked, judged, unopened, at-bound, Row, Holds, Replied, drawn, IsSo, AllSo, RowHolds, AllRows, rows}
+use Rattle.samples.specs.Plans.{bytes, Ahead, Holds}
+use Rattle.samples.proofs.Plans.{ahead, ahead-so, samples-hold}
+use Rattle.demand.specs.Rows.{Saying, walked, judged, unopened, at-bound, Row, Replied, drawn, IsSo, AllSo, RowHolds, AllRows, rows}
 use Rattle.prepare.proofs.Theorems.{theorems as preparing-theorems}
 use Rattle.table.specs.Table.{statesOf, lettersOf, tableMeaning, unfit}
 use Rattle.walks.specs.Walking.{letterOff}
@@ -49,31 +49,19 @@ use Rattle.demand.proofs.Theorems.{theorems}
 
 module _ (plan : List ℕ) (w : WellFormed plan) where
   -- a right answer is what the meaning has
-  replies : (v : Option ℕ) → Holds (meaning plan) v → (a : Prepared) → Right (meaning plan) a → Replied v a
+  replies : (v : Option ℕ) → Ahead (meaning plan) v → (a : Prepared) → Right (meaning plan) a → Replied v a
   replies (some k) h a r = r .ready k .1 h
   replies none h a r = r .never .1 h
 
-  draws : (v : Option ℕ) → Holds (meaning plan) v → (x : ℕ) → Draws plan x → x ≡ drawn v
+  draws : (v : Option ℕ) → Ahead (meaning plan) v → (x : ℕ) → Draws plan x → x ≡ drawn v
   draws v h x d = d .is ∙ go v h (d .outcome) (d .looks-ahead)
     where
-      go : (v : Option ℕ) → Holds (meaning plan) v → (o : Outcome ℕ) → LooksAhead (refusal plan) (meaning plan) o → asNumber o ≡ drawn v
+      go : (v : Option ℕ) → Ahead (meaning plan) v → (o : Outcome ℕ) → LooksAhead (refusal plan) (meaning plan) o → asNumber o ≡ drawn v
       go v h (refused r) (inl (e, n)) = absurd (n (e ∙ w))
       go (some k) h (refused r) (inr (_, _, u)) = absurd (lookahead-predicts h u)
       go none h (refused r) (inr (_, e, _)) = rw e
       go (some k) h (answered j) (_, a) = lookahead-unique a h
       go none h (answered j) (_, a) = absurd (lookahead-predicts a h)
-
--- the test of a look-ahead: no clash at k, one at k - 1; or one at n × n
-abbrev computes : Semiautomaton → Option ℕ → Bool
-computes S (some zero) = not (clash S 0)
-computes S (some (suc k)) = clash S k && not (clash S (suc k))
-computes S none = clash S (S .n * S .n)
-
-computes-holds : (S : Semiautomaton) → Within S → (v : Option ℕ) → computes S v ≡ true → Holds S v
-computes-holds S W (some zero) e = lookahead-first S W 0 (λ j h. absurd (omega arith)) (not-true (clash S 0) e)
-computes-holds S W (some (suc k)) e = with-and (clash S k) _ (λ p q.
-    lookahead-first S W (suc k) (λ j h. clash-in S W j (some-shorter S j k (omega arith) (clash-out S k p))) (not-true (clash S (suc k)) q)) e
-computes-holds S W none e = let (c, w) = some-witness S W (clash-out S (S .n * S .n) e) in witness-unpredictable S c w
 
 -- WHAT IS SAID BESIDE THE LOOK-AHEAD, of a table that preparing made
 
@@ -118,7 +106,7 @@ Computed S (walked w sets) =
     × (any (suc (length w)) (λ i. not (eqb (getD sets i 0) (setOf (S .n) (possible S (S .initial) (take (length w) w) i)))) ≡ false)
 Computed S (judged q a w v) = (named S q a ≡ some (fork q a)) × (letterOff (S .m) w ≡ false) × Computes S (member S (fork q a)) w v
 Computed S unopened = any (S .n) (S .initial) ≡ false
-Computed S at-bound = computes S (some (S .n * (S .n - 1) / 2)) ≡ true
+Computed S at-bound = ahead S (some (S .n * (S .n - 1) / 2)) ≡ true
 
 abbrev AllComputed : Semiautomaton → List Saying → Type 0
 AllComputed S [] = Unit {0}
@@ -130,7 +118,7 @@ is-so plan W (walked w sets) (begun, letters, whole, at) = λ k table old out a 
     let l : Longest S w (length w) = rw whole at (longest-some S W w begun) in
     walk-so plan W k table made w sets begun letters l (λ i h. possible-stands S W w (length w) l i h (eqb-true _ _ (not-false _ (any-not _ _ at i (omega arith))))) old out a
 is-so plan W (judged q a w v) (name, letters, c) = λ k table r made. judge-so plan W k table made q a w v name letters (tells (meaning plan) W (fork q a) c) r
-is-so plan W at-bound e = λ k table made. lookahead-unique (made .prepared .0 .1) (computes-holds (meaning plan) W (some _) e)
+is-so plan W at-bound e = λ k table made. lookahead-unique (made .prepared .0 .1) (ahead-so (meaning plan) W (some _) e)
 is-so plan W unopened e = λ k table bytes left a made room o.
     theorems plan k table made .opening-refused bytes a left room o (λ s. not-so _ λ q. false≢true (sym e ∙ any-in _ _ s (W .initial-lt s q) q))
 
@@ -140,38 +128,31 @@ all-so plan W (c ∷ cs) (p, ps) = (is-so plan W c p, all-so plan W cs ps)
 
 -- THE TABLE
 
-abbrev passes : Row → Bool
-passes r = eqb (refusal (r .plan)) 0 && computes (meaning (r .plan)) (r .lookahead)
-
-abbrev all : List Row → Bool
-all [] = true
-all (r ∷ rs) = passes r && all rs
-
-row-holds : (r : Row) → AllComputed (meaning (r .plan)) (r .sayings) → passes r ≡ true → RowHolds r
-row-holds r c = with-and (eqb (refusal (r .plan)) 0) _ λ a b.
-    let w : WellFormed (r .plan) = eqb-true (refusal (r .plan)) 0 a in
-    let W = well-formed-within (r .plan) w in
-    let h : Holds (meaning (r .plan)) (r .lookahead) = computes-holds (meaning (r .plan)) W (r .lookahead) b in
+row-holds : (r : Row) → Holds (r .sample) → AllComputed (meaning (bytes (r .sample))) (r .sayings)
+    → RowHolds (bytes (r .sample)) (r .sample .lookahead) (r .sayings)
+row-holds r h c =
+    let plan = bytes (r .sample) in
+    let k = r .sample .lookahead in
+    let w = h .well-formed in
+    let right = preparing-theorems plan in
     record {
-      well-formed = w;
-      holds = h;
-      counted = λ a old letters g c. replies (r .plan) w (r .lookahead) h a (preparing-theorems (r .plan) .counted-right w a old letters g c);
-      prepared = λ a old table old′ letters f g c. replies (r .plan) w (r .lookahead) h a (preparing-theorems (r .plan) .prepared-right w a old table old′ letters f g c);
-      drew = draws (r .plan) w (r .lookahead) h;
-      so = all-so (r .plan) W (r .sayings) c;
+      counted = λ a old letters g c. replies plan w k (h .ahead) a (right .counted-right w a old letters g c);
+      prepared = λ a old table old′ letters f g c. replies plan w k (h .ahead) a (right .prepared-right w a old table old′ letters f g c);
+      drew = draws plan w k (h .ahead);
+      so = all-so plan (well-formed-within plan w) (r .sayings) c;
     }
+
+abbrev AllHold : List Row → Type 0
+AllHold [] = Unit {0}
+AllHold (r ∷ rs) = Holds (r .sample) × AllHold rs
 
 abbrev AllSaid : List Row → Type 0
 AllSaid [] = Unit {0}
-AllSaid (r ∷ rs) = AllComputed (meaning (r .plan)) (r .sayings) × AllSaid rs
+AllSaid (r ∷ rs) = AllComputed (meaning (bytes (r .sample))) (r .sayings) × AllSaid rs
 
-all-rows : (rs : List Row) → AllSaid rs → all rs ≡ true → AllRows rs
-all-rows [] s e = tt
-all-rows (r ∷ rs) (c, s) e = with-and (passes r) _ (λ a b. (row-holds r c a, all-rows rs s b)) e
-
-rows-pass : all rows ≡ true
-unfolding refusal any clashIn clash live
-rows-pass = refl
+all-rows : (rs : List Row) → AllHold rs → AllSaid rs → AllRows rs
+all-rows [] _ _ = tt
+all-rows (r ∷ rs) (h, hs) (c, cs) = (row-holds r h c, all-rows rs hs cs)
 
 rows-said : AllSaid rows
 unfolding any spells step possible walkable greatest longest selector minimalSelector maximalNonselector setOf size clashIn clash live
@@ -184,4 +165,4 @@ rows-said = (
 )
 
 pub rows-hold : AllRows rows
-rows-hold = all-rows rows rows-said rows-pass
+rows-hold = all-rows rows samples-hold rows-said

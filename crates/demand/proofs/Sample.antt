@@ -33,51 +33,10 @@ use Rattle.predictor.specs.Calls.{openedOn, fedOn, Opens, Feeds}
 use Rattle.demand.specs.Demand.{Made, none, more, Walk}
 use Rattle.demand.specs.Sample.{planA, tableA, offered, answers, Sample}
 use Rattle.demand.proofs.Theorems.{walked-right}
-use Rattle.demand.proofs.Rows.{rows-hold}
+use Rattle.samples.proofs.Plans.{samples-hold}
+use Rattle.samples.proofs.TableA.{is-loaded}
 
 -- THE TABLE
-
-well-formed : WellFormed planA
-well-formed = rows-hold .0 .well-formed
-
-within : Within (meaning planA)
-within = well-formed-within planA well-formed
-
-abbrev sets : List ℕ
-sets = 2 ∷ 6 ∷ 0 ∷ []
-
-edge-is : (q a t : ℕ) → has (setOf 3 (meaning planA .edge q a)) t ≡ meaning planA .edge q a t
-edge-is q a t = elim (decided (meaning planA .edge q a t)) [
-  | inl e ↦ rw (has-setOf, e, lt-ltb t 3 (within .to-lt q a t e))
-  | inr e ↦ rw (has-setOf, e, and-false)
-]
-
-sets-at : (q : ℕ) → q < 3 → getD sets (place 1 q 0) 0 ≡ setOf 3 (meaning planA .edge q 0)
-unfolding setOf any
-sets-at zero h = refl
-sets-at (suc zero) h = refl
-sets-at (suc (suc zero)) h = refl
-sets-at (suc (suc (suc q))) h = absurd (omega arith)
-
-sets-are : (q a : ℕ) → q < 3 → a < 1 → getD sets (place 1 q a) 0 ≡ setOf 3 (meaning planA .edge q a)
-sets-are q zero h g = sets-at q h
-sets-are q (suc a) h g = absurd (omega arith)
-
-below : (j : ℕ) → j < 3 → getD sets j 0 < 2 ^ 3
-below zero h = omega arith
-below (suc zero) h = omega arith
-below (suc (suc zero)) h = omega arith
-below (suc (suc (suc j))) h = absurd (omega arith)
-
-entered : Entered (parsed planA) 3 (0 ∷ 0 ∷ 0 ∷ []) sets
-entered = record { below = below; edges = λ q a t h g. rw (sets-are q a h g) (edge-is q a t); kept = refl }
-
-starts-are : 1 ≡ setOf 3 (meaning planA .initial)
-unfolding setOf any
-starts-are = refl
-
-pub is-loaded : Loaded planA (0 ∷ 0 ∷ 0 ∷ []) sets 1
-is-loaded = loaded planA well-formed (headerOf planA) refl (omega arith) entered starts-are
 
 no-refusal : prepareRefusal planA 8 9 ≡ 0
 unfolding prepareRefusal any
@@ -87,14 +46,14 @@ abbrev letters : List ℕ
 letters = 7 ∷ 7 ∷ 7 ∷ 7 ∷ 7 ∷ 7 ∷ 7 ∷ 7 ∷ 7 ∷ []
 
 predicts : Lookahead (meaning planA) 1
-predicts = rows-hold .0 .holds
+predicts = samples-hold .0 .ahead
 
 made : Made planA 1 tableA
 made = record {
   old = 9 ∷ 9 ∷ 9 ∷ 9 ∷ 9 ∷ 9 ∷ 9 ∷ 9 ∷ [];
   old-letters = letters;
   letters = letters;
-  prepared = prepare-ready planA no-refusal predicts (tabled planA well-formed is-loaded refl refl 1 predicts (omega arith) refl) refl;
+  prepared = prepare-ready planA no-refusal predicts (tabled planA (samples-hold .0 .well-formed) is-loaded refl refl 1 predicts (omega arith) refl) refl;
 }
 
 -- THE RECORD, in ten bytes of which the last is kept: before opening, opened, and after each letter that is taken

@@ -32,7 +32,8 @@ use Rattle.records.specs.Bytes.{heldFrom, decode}
 use Rattle.predictor.specs.Replies.{said}
 use Rattle.predictor.specs.Calls.{written, onto, openedOn, fedOn, tableCheck, recordCheck, tidyCheck, Opens}
 use Rattle.demand.specs.Demand.{Made, Walk, Taken, Theorems, Demand, DemandMet}
-use Rattle.demand.proofs.Records.{Holds, Small, encode-holds, follows-small, opened-is, feeding-replies}
+use Rattle.predictor.proofs.Following.{Holds, Small, encode-holds, follows-small, opened-is}
+use Rattle.demand.proofs.Feeding.{feeding-replies}
 
 -- a table that fits has a look-ahead that two bytes can count
 few : (table : List ℕ) → Fitting table → lookaheadOf table < 2 ^ 16

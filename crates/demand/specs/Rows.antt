@@ -1,5 +1,4 @@
--- Document 01's plans A to H as bytes, with what it says of each: the look-ahead, the possible states of a walk, verdicts, opening; and a
--- ninth: C numbered so that a round in place would go wrong.
+-- What document 01 says of plans A to H, of the calls: the look-ahead, the possible states of a walk, verdicts, opening.
 -- Assumes nothing.
 use Prim.Native.Nat.{ℕ, _+_, _-_, _*_, _/_, _≤_, _<_}
 use mathlib.Core.Bool.{Bool, true, false}
@@ -7,11 +6,10 @@ use mathlib.Core.Option.{Option, some, none}
 use mathlib.Core.Path.{_≡_}
 use mathlib.Core.List.{List, [], _∷_}
 use lib.ListN.{length, getD}
-use Rattle.semiautomata.specs.Semiautomaton.{Semiautomaton}
-use Rattle.semiautomata.specs.Predictability.{Lookahead, Unpredictable}
 use Rattle.semiautomata.specs.Calls as reply
 use Rattle.refusals.specs.Outcomes.{refused, answered}
-use Rattle.plan.specs.Bytes.{headerOf, meaning, WellFormed}
+use Rattle.plan.specs.Bytes.{headerOf}
+use Rattle.samples.specs.Plans.{Sample, bytes, A, B, C, D, E, F, G, H, C′}
 use Rattle.table.specs.Table.{setsFrom}
 use Rattle.prepare.specs.declared.Prepared.{Prepared}
 use Rattle.prepare.specs.Preparing.{outcomeOfPrepared, Prepares, CountsTo, Draws}
@@ -36,16 +34,10 @@ pub data Saying : Type 0 where
   unopened : Saying
   at-bound : Saying
 
--- Plan bytes, the look-ahead, `none` where there is none, and what else is said.
+-- A sample, and what else is said of it.
 pub record Row : Type 0 where
-  pub plan : List ℕ
-  pub lookahead : Option ℕ
+  pub sample : Sample
   pub sayings : List Saying
-
--- What a row says of what its plan means.
-abbrev pub Holds : Semiautomaton → Option ℕ → Type 0
-Holds S (some k) = Lookahead S k
-Holds S none = Unpredictable S
 
 -- What preparing and the count call answer, and the number that the drawing program gets.
 abbrev pub Replied : Option ℕ → Prepared → Type 0
@@ -70,43 +62,34 @@ abbrev pub AllSo : List ℕ → List Saying → Type 0
 AllSo plan [] = Unit {0}
 AllSo plan (c ∷ cs) = IsSo plan c × AllSo plan cs
 
--- What a row says: the plan is well formed, its meaning has that look-ahead or none, and the calls answer so; what else is said is so.
-pub record RowHolds (r : Row) : Type 0 where
-  pub well-formed : WellFormed (r .plan)
-  pub holds : Holds (meaning (r .plan)) (r .lookahead)
-  pub counted : (a : Prepared) (old letters : List ℕ) → headerOf (r .plan) .n * headerOf (r .plan) .n ≤ length old → CountsTo (r .plan) a old letters → Replied (r .lookahead) a
-  pub prepared : (a : Prepared) (old table old′ letters : List ℕ) → setsFrom + headerOf (r .plan) .n * headerOf (r .plan) .m ≤ length old → headerOf (r .plan) .n * headerOf (r .plan) .n ≤ length old′ → Prepares (r .plan) a old table old′ letters → Replied (r .lookahead) a
-  pub drew : (x : ℕ) → Draws (r .plan) x → x ≡ drawn (r .lookahead)
-  pub so : AllSo (r .plan) (r .sayings)
+-- What a row says of its plan's bytes: the calls answer its look-ahead, or 15; what else is said is so.
+pub record RowHolds (plan : List ℕ) (lookahead : Option ℕ) (sayings : List Saying) : Type 0 where
+  pub counted : (a : Prepared) (old letters : List ℕ) → headerOf plan .n * headerOf plan .n ≤ length old → CountsTo plan a old letters
+      → Replied lookahead a
+  pub prepared : (a : Prepared) (old table old′ letters : List ℕ) → setsFrom + headerOf plan .n * headerOf plan .m ≤ length old
+      → headerOf plan .n * headerOf plan .n ≤ length old′ → Prepares plan a old table old′ letters → Replied lookahead a
+  pub drew : (x : ℕ) → Draws plan x → x ≡ drawn lookahead
+  pub so : AllSo plan sayings
 
 abbrev pub AllRows : List Row → Type 0
 AllRows [] = Unit {0}
-AllRows (r ∷ rs) = RowHolds r × AllRows rs
+AllRows (r ∷ rs) = RowHolds (bytes (r .sample)) (r .sample .lookahead) (r .sayings) × AllRows rs
 
-abbrev pub row : List ℕ → Option ℕ → List Saying → Row
-row plan k sayings = record { plan = plan; lookahead = k; sayings = sayings }
+abbrev pub row : Sample → List Saying → Row
+row sample sayings = record { sample = sample; sayings = sayings }
 
-abbrev pub says : ℕ → Bool → ℕ → Verdict
-says alive least stuck = record { survivors = alive; minimal = least; nonselected = stuck }
+abbrev pub verdict : ℕ → Bool → ℕ → Verdict
+verdict alive least stuck = record { survivors = alive; minimal = least; nonselected = stuck }
 
 abbrev pub rows : List Row
 rows =
-    -- A
-    row (1 ∷ 0 ∷ 3 ∷ 0 ∷ 1 ∷ 0 ∷ 1 ∷ 0 ∷ 3 ∷ 0 ∷ 16 ∷ 0 ∷ 17 ∷ 0 ∷ 26 ∷ 0 ∷ 0 ∷ 0 ∷ 0 ∷ 1 ∷ 1 ∷ 0 ∷ 1 ∷ 1 ∷ 0 ∷ 2 ∷ []) (some 1) (judged 1 0 [] (says 6 false 4) ∷ judged 1 0 (0 ∷ []) (says 2 true 0) ∷ [])
-    -- B
-    ∷ row (1 ∷ 0 ∷ 2 ∷ 0 ∷ 1 ∷ 0 ∷ 1 ∷ 0 ∷ 3 ∷ 0 ∷ 16 ∷ 0 ∷ 17 ∷ 0 ∷ 26 ∷ 0 ∷ 0 ∷ 0 ∷ 0 ∷ 0 ∷ 0 ∷ 0 ∷ 1 ∷ 1 ∷ 0 ∷ 1 ∷ []) none []
-    -- C
-    ∷ row (1 ∷ 0 ∷ 4 ∷ 0 ∷ 2 ∷ 0 ∷ 2 ∷ 0 ∷ 3 ∷ 0 ∷ 16 ∷ 0 ∷ 18 ∷ 0 ∷ 27 ∷ 0 ∷ 0 ∷ 1 ∷ 0 ∷ 0 ∷ 2 ∷ 1 ∷ 0 ∷ 2 ∷ 2 ∷ 1 ∷ 3 ∷ []) (some 3) (walked (0 ∷ 1 ∷ []) (3 ∷ 4 ∷ 8 ∷ []) ∷ [])
-    -- D
-    ∷ row (1 ∷ 0 ∷ 3 ∷ 0 ∷ 1 ∷ 0 ∷ 1 ∷ 0 ∷ 4 ∷ 0 ∷ 16 ∷ 0 ∷ 17 ∷ 0 ∷ 29 ∷ 0 ∷ 0 ∷ 0 ∷ 0 ∷ 0 ∷ 1 ∷ 0 ∷ 1 ∷ 1 ∷ 0 ∷ 2 ∷ 2 ∷ 0 ∷ 2 ∷ []) none []
-    -- E
-    ∷ row (1 ∷ 0 ∷ 1 ∷ 0 ∷ 1 ∷ 0 ∷ 0 ∷ 0 ∷ 0 ∷ 0 ∷ 16 ∷ 0 ∷ 16 ∷ 0 ∷ 16 ∷ 0 ∷ []) (some 0) (unopened ∷ [])
-    -- F
-    ∷ row (1 ∷ 0 ∷ 2 ∷ 0 ∷ 1 ∷ 0 ∷ 2 ∷ 0 ∷ 0 ∷ 0 ∷ 16 ∷ 0 ∷ 18 ∷ 0 ∷ 18 ∷ 0 ∷ 0 ∷ 1 ∷ []) (some 1) (walked [] (3 ∷ []) ∷ [])
-    -- G
-    ∷ row (1 ∷ 0 ∷ 3 ∷ 0 ∷ 2 ∷ 0 ∷ 2 ∷ 0 ∷ 4 ∷ 0 ∷ 16 ∷ 0 ∷ 18 ∷ 0 ∷ 30 ∷ 0 ∷ 0 ∷ 1 ∷ 0 ∷ 0 ∷ 1 ∷ 1 ∷ 0 ∷ 2 ∷ 1 ∷ 1 ∷ 0 ∷ 2 ∷ 1 ∷ 2 ∷ []) (some 3) (at-bound ∷ [])
-    -- H
-    ∷ row (1 ∷ 0 ∷ 4 ∷ 0 ∷ 2 ∷ 0 ∷ 2 ∷ 0 ∷ 4 ∷ 0 ∷ 16 ∷ 0 ∷ 18 ∷ 0 ∷ 30 ∷ 0 ∷ 0 ∷ 1 ∷ 0 ∷ 0 ∷ 2 ∷ 1 ∷ 0 ∷ 2 ∷ 2 ∷ 1 ∷ 3 ∷ 3 ∷ 1 ∷ 3 ∷ []) none []
-    -- C, numbered another way
-    ∷ row (1 ∷ 0 ∷ 4 ∷ 0 ∷ 2 ∷ 0 ∷ 2 ∷ 0 ∷ 3 ∷ 0 ∷ 16 ∷ 0 ∷ 18 ∷ 0 ∷ 27 ∷ 0 ∷ 2 ∷ 3 ∷ 2 ∷ 0 ∷ 1 ∷ 3 ∷ 0 ∷ 1 ∷ 1 ∷ 1 ∷ 0 ∷ []) (some 3) []
+    row A (judged 1 0 [] (verdict 6 false 4) ∷ judged 1 0 (0 ∷ []) (verdict 2 true 0) ∷ [])
+    ∷ row B []
+    ∷ row C (walked (0 ∷ 1 ∷ []) (3 ∷ 4 ∷ 8 ∷ []) ∷ [])
+    ∷ row D []
+    ∷ row E (unopened ∷ [])
+    ∷ row F (walked [] (3 ∷ []) ∷ [])
+    ∷ row G (at-bound ∷ [])
+    ∷ row H []
+    ∷ row C′ []
     ∷ []

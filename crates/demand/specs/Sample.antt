@@ -5,12 +5,13 @@ use mathlib.Core.List.{List, [], _∷_, map}
 use Rattle.semiautomata.specs.Calls.{Reply, refused, resolved, nothing}
 use Rattle.semiautomata.specs.Demand3.{Demand3}
 use Rattle.plan.specs.Bytes.{meaning}
+use Rattle.samples.specs.Plans.{bytes, A}
 use Rattle.predictor.specs.declared.Answer.{Answer}
 use Rattle.predictor.specs.declared.Answer.the-variants.{Refused, Resolved, Nothing}
 use Rattle.demand.specs.Demand.{Made, Walk}
 
 abbrev pub planA : List ℕ
-planA = 1 ∷ 0 ∷ 3 ∷ 0 ∷ 1 ∷ 0 ∷ 1 ∷ 0 ∷ 3 ∷ 0 ∷ 16 ∷ 0 ∷ 17 ∷ 0 ∷ 26 ∷ 0 ∷ 0 ∷ 0 ∷ 0 ∷ 1 ∷ 1 ∷ 0 ∷ 1 ∷ 1 ∷ 0 ∷ 2 ∷ []
+planA = bytes A
 
 -- n 3, m 1, k 1, the starts {0}, then the sets {1}, {1, 2} and {}; a number behind the form is kept
 abbrev pub tableA : List ℕ

@@ -1,3 +1,4 @@
 pub mod Bytes
 pub mod Loading
+pub mod Written
 pub mod Theorems

@@ -4,3 +4,4 @@ pub mod Judging
 pub mod Tables
 pub mod Ending
 pub mod Theorems
+pub mod Following

@@ -22,9 +22,9 @@ use Rattle.prepare.specs.Preparing.{Tabled}
 use Rattle.prepare.proofs.Answers.{tabled}
 use Rattle.records.specs.Bytes.{tidy}
 use Rattle.predictor.specs.Calls.{openedOn, fedOn}
-use Rattle.demand.specs.Sample.{planA}
-use Rattle.demand.proofs.Rows.{rows-hold}
-use Rattle.demand.proofs.Sample.{is-loaded}
+use Rattle.samples.specs.Plans.{bytes, A as sample-A, B as sample-B}
+use Rattle.samples.proofs.Plans.{samples-hold}
+use Rattle.samples.proofs.TableA.{is-loaded}
 use Rattle.text.specs.declared.Printed.the-variants.{Going, Ended}
 use Rattle.steps.specs.declared.Stage.the-variants.{Plan, Letters}
 use Rattle.lines.specs.Lines.{countsLine, lookaheadLine, refusedLine, resolutionLine, Appended}
@@ -60,17 +60,17 @@ abbrev A2 : List ℕ
 A2 = 0 ∷ 0 ∷ 0 ∷ 1 ∷ 1 ∷ 0 ∷ 1 ∷ 1 ∷ 0 ∷ 2 ∷ []
 
 abbrev A : List ℕ
-A = planA
+A = bytes sample-A
 
 w : WellFormed A
-w = rows-hold .0 .well-formed
+w = samples-hold .0 .well-formed
 
 -- its table, and the record opened and after each letter
 abbrev table : List ℕ
 table = 3 ∷ 1 ∷ 1 ∷ 1 ∷ 2 ∷ 6 ∷ 0 ∷ replicate 2045 0
 
 is-tabled : Tabled (meaning A) 1 zeroTable table
-is-tabled = tabled A w is-loaded refl refl 1 (rows-hold .0 .holds) (omega arith) refl
+is-tabled = tabled A w is-loaded refl refl 1 (samples-hold .0 .ahead) (omega arith) refl
 
 abbrev r1 : List ℕ
 r1 = 0 ∷ 0 ∷ 0 ∷ 0 ∷ 255 ∷ replicate 2019 0
@@ -110,7 +110,7 @@ is-plan = refl
 -- the first two lines; opening has none
 begun : (r : ℕ) × (out : List ℕ) × Begins A zeroTable zeroRecord (Going r) table r1 lines out
 begun =
-    let L = rows-hold .0 .holds in
+    let L = samples-hold .0 .ahead in
     let t = is-tabled in
     let long = counts-width 3 1 1 3 (omega arith) (omega arith) (omega arith) (omega arith) in
     let put1 = puts lines 0 (countsLine 3 1 1 3) (omega (arith, long)) in
@@ -173,10 +173,10 @@ abbrev B2 : List ℕ
 B2 = 0 ∷ 0 ∷ 0 ∷ 0 ∷ 0 ∷ 0 ∷ 1 ∷ 1 ∷ 0 ∷ 1 ∷ []
 
 abbrev B : List ℕ
-B = 1 ∷ 0 ∷ 2 ∷ 0 ∷ 1 ∷ 0 ∷ 1 ∷ 0 ∷ 3 ∷ 0 ∷ 16 ∷ 0 ∷ 17 ∷ 0 ∷ 26 ∷ 0 ∷ 0 ∷ 0 ∷ 0 ∷ 0 ∷ 0 ∷ 0 ∷ 1 ∷ 1 ∷ 0 ∷ 1 ∷ []
+B = bytes sample-B
 
 b-read : outcomeOfReading (Counts 2 1 1 3) ≡ reading B
-b-read = rw (rows-hold .1 .0 .well-formed)
+b-read = rw (samples-hold .1 .0 .well-formed)
 
 b-plan : noPlan B ≡ false
 unfolding noPlan
@@ -184,7 +184,7 @@ b-plan = refl
 
 b-begun : (r : ℕ) × (out : List ℕ) × Begins B zeroTable zeroRecord (Ended r) zeroTable zeroRecord lines out
 b-begun =
-    let u = rows-hold .1 .0 .holds in
+    let u = samples-hold .1 .0 .ahead in
     let long = counts-width 2 1 1 3 (omega arith) (omega arith) (omega arith) (omega arith) in
     let put1 = puts lines 0 (countsLine 2 1 1 3) (omega (arith, long)) in
     let put2 = puts-on put1 (refusedLine 15) (omega (arith, long, refused-width 15 (omega arith))) in (

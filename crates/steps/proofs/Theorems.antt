@@ -12,7 +12,7 @@ use Rattle.semiautomata.specs.PlainWalk.{limit, stateAt, plainReply, plainFeed}
 use Rattle.semiautomata.specs.Demand3.{followed}
 use Rattle.semiautomata.specs.Streaming.{unresolved}
 use Rattle.semiautomata.proofs.Shares.{lookahead-unique, lookahead-predicts}
-use Rattle.demand.proofs.Rows.{rows-hold}
+use Rattle.samples.proofs.Plans.{samples-hold}
 use Rattle.lines.specs.Lines.{digits, decimal, field, countsLine, lookaheadLine, refusedLine, resolutionLine, listed, openLine}
 use Rattle.steps.specs.declared.Stage.the-variants.{Plan}
 use Rattle.text.specs.Report.{noPlan, openLines, openText, walkText, plainText, AfterLookahead, no-start, walked}
@@ -53,7 +53,7 @@ one-report (well-formed _ _ a) (well-formed _ _ b) = rw (one-counted a b)
 
 sample-printed : Reports sample sampleText
 unfolding noPlan digits decimal field countsLine lookaheadLine resolutionLine listed openLine openLines openText walkText plainText limit stateAt plainReply plainFeed followed unresolved possible walkable spells step any least has setOf
-sample-printed = let a = rows-hold .0 in well-formed refl (a .well-formed) (predicts 1 (a .holds) (walked 0 refl))
+sample-printed = let a = samples-hold .0 in well-formed refl (a .well-formed) (predicts 1 (a .ahead) (walked 0 refl))
 
 sample-run : Runs (Plan 0 16) [] zeroTable zeroRecord sample sampleText
 sample-run =
@@ -64,7 +64,7 @@ sample-run =
 
 refused-printed : Reports refusedSample refusedText
 unfolding noPlan digits decimal field countsLine refusedLine
-refused-printed = let b = rows-hold .1 .0 in well-formed refl (b .well-formed) (never (b .holds))
+refused-printed = let b = samples-hold .1 .0 in well-formed refl (b .well-formed) (never (b .ahead))
 
 refused-run : Runs (Plan 0 16) [] zeroTable zeroRecord refusedSample refusedText
 refused-run =

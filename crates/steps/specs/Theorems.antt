@@ -2,15 +2,16 @@
 -- Assumes nothing.
 use Prim.Native.Nat.{ℕ}
 use mathlib.Core.Path.{_≡_}
-use mathlib.Core.List.{List, [], _∷_}
+use mathlib.Core.List.{List, [], _∷_, _++_}
 use lib.ListN.{replicate}
+use Rattle.samples.specs.Plans.{bytes, A, B}
 use Rattle.steps.specs.declared.Stage.the-variants.{Plan}
 use Rattle.text.specs.Report.{Reports}
 use Rattle.steps.specs.Steps.{Runs}
 
 -- Plan A and three letters, the sample of document 01, and its six lines.
 abbrev pub sample : List ℕ
-sample = 1 ∷ 0 ∷ 3 ∷ 0 ∷ 1 ∷ 0 ∷ 1 ∷ 0 ∷ 3 ∷ 0 ∷ 16 ∷ 0 ∷ 17 ∷ 0 ∷ 26 ∷ 0 ∷ 0 ∷ 0 ∷ 0 ∷ 1 ∷ 1 ∷ 0 ∷ 1 ∷ 1 ∷ 0 ∷ 2 ∷ 0 ∷ 0 ∷ 0 ∷ []
+sample = bytes A ++ (0 ∷ 0 ∷ 0 ∷ [])
 
 abbrev pub sampleText : List ℕ
 sampleText =
@@ -30,7 +31,7 @@ sampleText =
 
 -- Plan B and two letters, and its two lines.
 abbrev pub refusedSample : List ℕ
-refusedSample = 1 ∷ 0 ∷ 2 ∷ 0 ∷ 1 ∷ 0 ∷ 1 ∷ 0 ∷ 3 ∷ 0 ∷ 16 ∷ 0 ∷ 17 ∷ 0 ∷ 26 ∷ 0 ∷ 0 ∷ 0 ∷ 0 ∷ 0 ∷ 0 ∷ 0 ∷ 1 ∷ 1 ∷ 0 ∷ 1 ∷ 0 ∷ 0 ∷ []
+refusedSample = bytes B ++ (0 ∷ 0 ∷ [])
 
 abbrev pub refusedText : List ℕ
 refusedText =

@@ -4,24 +4,21 @@
 use Prim.Native.Nat.{ℕ, _+_, _-_, _^_, _≤_, _<_}
 use mathlib.Core.Bool.{true, false}
 use mathlib.Core.Path.{_≡_, refl, _∙_, ap}
-use mathlib.Core.List.{List, [], _∷_, _++_, map}
+use mathlib.Core.List.{List, [], _∷_, _++_}
 use native.Mathlib.Omega.{arith}
 use lib.ListN.{length, drop, length-append, length-drop}
 use borrow.Author.Tests.{le-ltb}
 use Rattle.semiautomata.specs.Semiautomaton.{Semiautomaton, Within}
 use Rattle.semiautomata.specs.Predictability.{Predictable}
-use Rattle.semiautomata.specs.Calls.{Reply, refused, resolved, nothing, Result, replies}
-use Rattle.semiautomata.specs.PlainWalk.{limit, plainFeed}
+use Rattle.semiautomata.specs.Calls.{Reply, refused, resolved, nothing, Result}
+use Rattle.semiautomata.specs.PlainWalk.{limit}
 use Rattle.semiautomata.specs.Streaming.{Rec, settled, opened, feed, feedChecks, base}
 use Rattle.semiautomata.proofs.Calls.{Course, refuses, passes, course}
-use Rattle.semiautomata.proofs.Streaming.{Follows, feed-agrees}
+use Rattle.semiautomata.proofs.Streaming.{Follows}
 use Rattle.table.specs.Table.{lookaheadOf, tableMeaning, unfit}
-use Rattle.predictor.specs.declared.Answer.{Answer}
 use Rattle.records.specs.Bytes.{heldFrom, decode, tidy, encode}
-use Rattle.predictor.specs.Replies.{said}
 use Rattle.predictor.specs.Calls.{written, onto, openedOn, fedOn}
 use Rattle.records.proofs.Bytes.{decode-encode, tidy-encode, length-encode}
-use Rattle.demand.specs.Demand.{Feeding, none, more}
 
 -- the bytes hold the record r for k
 pub record Holds (k : ℕ) (bytes : List ℕ) (r : Rec) : Type 0 where
@@ -86,16 +83,3 @@ module _ (table : List ℕ) (fit : unfit table ≡ false) where
       held-le = rw (f .held-are, length-drop) (omega arith);
       few = few;
     }
-
-    -- a list of calls replies as the rule without bytes
-    pub feeding-replies : {bytes offered : List ℕ} {answers : List Answer} → Feeding table bytes offered answers → (r : Rec) (w : List ℕ) → Holds k bytes r → Follows S W k P r w
-        → map said answers ≡ replies (feed S k) r offered
-    feeding-replies none r w h f = refl
-    feeding-replies (more {bytes} {left} {letter} {answer} {letters} {answers} c rest) r w h f =
-        let is = fed-is bytes r letter h in
-        let t = feed S k r letter in
-        let agree = feed-agrees S W k P r w letter f in
-        let reply : said answer ≡ t .reply = c .0 ∙ ap (λ (x : Result (List ℕ)). x .reply) is in
-        let state : left ≡ written k bytes (t .state) (t .reply) = c .1 ∙ ap (λ (x : Result (List ℕ)). x .state) is in
-        let next : Holds k left (t .state) = rw state (written-holds k bytes r (t .state) (t .reply) h (follows-small (t .state) (plainFeed S k w letter .state) (agree .state)) (feed-keeps S k r letter)) in
-        rw (reply, feeding-replies rest (t .state) (plainFeed S k w letter .state) next (agree .state))

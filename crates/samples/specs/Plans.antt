@@ -1,0 +1,63 @@
+-- Document 01's plans A to H as it lists them, each with its look-ahead; and a ninth: C numbered so that a round in place would go wrong.
+-- Assumes nothing.
+use Prim.Native.Nat.{ℕ}
+use mathlib.Core.Option.{Option, some, none}
+use mathlib.Core.List.{List, [], _∷_}
+use Rattle.semiautomata.specs.Semiautomaton.{Semiautomaton}
+use Rattle.semiautomata.specs.Predictability.{Lookahead, Unpredictable}
+use Rattle.semiautomata.specs.Plan.{Line}
+use Rattle.plan.specs.Bytes.{meaning, WellFormed}
+use Rattle.plan.specs.Written.{Listed, line, planBytes}
+
+-- A plan, and its look-ahead, `none` where there is none (15).
+pub record Sample : Type 0 where
+  pub plan : Listed
+  pub lookahead : Option ℕ
+
+abbrev pub bytes : Sample → List ℕ
+bytes s = planBytes (s .plan)
+
+-- n and m, the starts, the lines, the look-ahead.
+abbrev pub sample : ℕ → ℕ → List ℕ → List Line → Option ℕ → Sample
+sample n m starts lines k = record { plan = record { n = n; m = m; starts = starts; lines = lines }; lookahead = k }
+
+abbrev pub A : Sample
+A = sample 3 1 (0 ∷ []) (line 0 0 1 ∷ line 1 0 1 ∷ line 1 0 2 ∷ []) (some 1)
+
+abbrev pub B : Sample
+B = sample 2 1 (0 ∷ []) (line 0 0 0 ∷ line 0 0 1 ∷ line 1 0 1 ∷ []) none
+
+abbrev pub C : Sample
+C = sample 4 2 (0 ∷ 1 ∷ []) (line 0 0 2 ∷ line 1 0 2 ∷ line 2 1 3 ∷ []) (some 3)
+
+abbrev pub D : Sample
+D = sample 3 1 (0 ∷ []) (line 0 0 0 ∷ line 1 0 1 ∷ line 1 0 2 ∷ line 2 0 2 ∷ []) none
+
+abbrev pub E : Sample
+E = sample 1 1 [] [] (some 0)
+
+abbrev pub F : Sample
+F = sample 2 1 (0 ∷ 1 ∷ []) [] (some 1)
+
+abbrev pub G : Sample
+G = sample 3 2 (0 ∷ 1 ∷ []) (line 0 0 1 ∷ line 1 0 2 ∷ line 1 1 0 ∷ line 2 1 2 ∷ []) (some 3)
+
+abbrev pub H : Sample
+H = sample 4 2 (0 ∷ 1 ∷ []) (line 0 0 2 ∷ line 1 0 2 ∷ line 2 1 3 ∷ line 3 1 3 ∷ []) none
+
+-- C with 0, 1, 2, 3 numbered 2, 3, 1, 0
+abbrev pub C′ : Sample
+C′ = sample 4 2 (2 ∷ 3 ∷ []) (line 2 0 1 ∷ line 3 0 1 ∷ line 1 1 0 ∷ []) (some 3)
+
+abbrev pub samples : List Sample
+samples = A ∷ B ∷ C ∷ D ∷ E ∷ F ∷ G ∷ H ∷ C′ ∷ []
+
+-- What the look-ahead of a sample says of the semiautomaton that it means.
+abbrev pub Ahead : Semiautomaton → Option ℕ → Type 0
+Ahead S (some k) = Lookahead S k
+Ahead S none = Unpredictable S
+
+-- The plan is well formed, and has that look-ahead or none.
+pub record Holds (s : Sample) : Type 0 where
+  pub well-formed : WellFormed (bytes s)
+  pub ahead : Ahead (meaning (bytes s)) (s .lookahead)
