@@ -47,7 +47,12 @@ any-cong (suc n) p q h = ap₂ _||_ (any-cong n p q (λ x k. h x (omega arith)))
 pub any-add : (n : ℕ) (p : ℕ → Bool) (z : ℕ) (b : Bool) → z < n → any n (λ s. p s || eqb z s && b) ≡ (any n p || b)
 any-add n p z b h =
     same-test _ _
-    (with-any n _ (λ s g e. elim (or-cases (p s) _ e) [ inl d ↦ or-left (any n p) b (any-in n p s g d) | inr d ↦ or-right (any n p) b (and-out (eqb z s) b d .1) ]))
+    (with-any n _ (λ s g e.
+    elim (or-cases (p s) _ e) [
+      | inl d ↦ or-left (any n p) b (any-in n p s g d)
+      | inr d ↦
+          or-right (any n p) b (and-out (eqb z s) b d .1)
+    ]))
     (λ e. elim (or-cases (any n p) b e) [
       | inl d ↦ with-any n p (λ s g c. any-in n _ s g (or-left (p s) _ c)) d
       | inr d ↦ any-in n _ z h (or-right (p z) _ (and-in (eqb z z) b (eq-eqb z z refl) d))
@@ -107,11 +112,25 @@ size-sole (suc n) p e = go (p n) refl (size-sole n p)
   where
     go : (b : Bool) → p n ≡ b → (size n p ≡ 1 → (x : ℕ) × Sole n p x) → (x : ℕ) × Sole (suc n) p x
     go true q ih =
-        let none : size n p ≡ 0 = omega (arith, ap one-if q) in
-        (n, record { below = omega arith; member = q; only = λ y h d. elim (ℕ-discrete y n) [ yes r ↦ r | no r ↦ absurd (false≢true (sym (size-empty n p none y (omega arith)) ∙ d)) ] })
+        let none : size n p ≡ 0 = omega (arith, ap one-if q) in (
+          n,
+          record {
+            below = omega arith;
+            member = q;
+            only =
+                λ y h d. elim (ℕ-discrete y n) [ yes r ↦ r | no r ↦ absurd (false≢true (sym (size-empty n p none y (omega arith)) ∙ d)) ];
+          },
+        )
     go false q ih =
-        let (x, s) = ih (omega (arith, ap one-if q)) in
-        (x, record { below = omega arith; member = s .member; only = λ y h d. elim (ℕ-discrete y n) [ yes r ↦ absurd (false≢true (sym (rw r q) ∙ d)) | no r ↦ s .only y (omega arith) d ] })
+        let (x, s) = ih (omega (arith, ap one-if q)) in (
+          x,
+          record {
+            below = omega arith;
+            member = s .member;
+            only =
+                λ y h d. elim (ℕ-discrete y n) [ yes r ↦ absurd (false≢true (sym (rw r q) ∙ d)) | no r ↦ s .only y (omega arith) d ];
+          },
+        )
 
 -- there are two or more where two different ones are members
 pub size-two : (n : ℕ) (p : ℕ → Bool) (x y : ℕ) → x < n → y < n → p x ≡ true → p y ≡ true → ¬ (x ≡ y) → 1 < size n p
@@ -141,7 +160,8 @@ pub size-without : (n : ℕ) (p : ℕ → Bool) (x : ℕ) → x < n → p x ≡ 
 unfolding size
 size-without zero p x h e = absurd (omega arith)
 size-without (suc n) p x h e = elim (ℕ-discrete x n) [
-  | yes q ↦ rw (eq-eqb x n q, rw q at e) (omega (arith, size-cong n (λ t. p t && not (eqb x t)) p (λ t g. rw (ne-eqb x t (λ r. omega arith), and-true))))
+  | yes q ↦ rw (eq-eqb x n q, rw q at e)
+      (omega (arith, size-cong n (λ t. p t && not (eqb x t)) p (λ t g. rw (ne-eqb x t (λ r. omega arith), and-true))))
   | no q ↦ rw (ne-eqb x n q, and-true) (omega (arith, size-without n p x (omega arith) e))
 ]
 

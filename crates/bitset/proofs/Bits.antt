@@ -47,7 +47,8 @@ bit false = omega arith
 
 -- what an operator does to each digit it does to each member
 module _ (op d : ℕ → ℕ → ℕ) (f : Bool → Bool → Bool) (step : (a b : ℕ) → op a b ≡ op (a / 2) (b / 2) * 2 + d (a % 2) (b % 2))
-    (ff : d 0 0 ≡ one-if (f false false)) (ft : d 0 1 ≡ one-if (f false true)) (tf : d 1 0 ≡ one-if (f true false)) (tt : d 1 1 ≡ one-if (f true true)) where
+    (ff : d 0 0 ≡ one-if (f false false)) (ft : d 0 1 ≡ one-if (f false true)) (tf : d 1 0 ≡ one-if (f true false))
+    (tt : d 1 1 ≡ one-if (f true true)) where
   digits : (x y : Bool) → d (one-if x) (one-if y) ≡ one-if (f x y)
   digits false false = ff
   digits false true = ft
@@ -99,7 +100,8 @@ has-mask (suc n) (suc t) =
 pub same-below : (k a b : ℕ) → a < 2 ^ k → b < 2 ^ k → ((t : ℕ) → t < k → has a t ≡ has b t) → a ≡ b
 same-below zero a b x y f = omega arith
 same-below (suc k) a b x y f =
-    let high = same-below k (a / 2) (b / 2) (omega arith) (omega arith) (λ t h. rw (← has-suc a t, ← has-suc b t) (f (suc t) (suc-le-suc h))) in
+    let high = same-below k (a / 2) (b / 2) (omega arith) (omega arith)
+    (λ t h. rw (← has-suc a t, ← has-suc b t) (f (suc t) (suc-le-suc h))) in
     omega (arith, low a, low b, ap one-if (f 0 (omega arith)), high)
 
 below-pow : (n : ℕ) → n < 2 ^ n

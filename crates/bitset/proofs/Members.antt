@@ -78,5 +78,7 @@ strike-less x p = omega (arith, and-le-r x (x - 1))
 
 pub ones-strike : (k x : ℕ) → 0 < x → x < 2 ^ k → ones x ≡ suc (ones (bitAnd x (x - 1)))
 ones-strike k x p h =
-    let rest : size k (has (bitAnd x (x - 1))) ≡ size k (λ t. has x t && not (eqb (trailingZeros k x) t)) = size-cong k _ _ (λ t g. has-strike k x t h) in
-    rw (ones-size k x h, ones-size k (bitAnd x (x - 1)) (and-fits k x (x - 1) h), rest) (size-without k (has x) (trailingZeros k x) (trailing-lt k x p h) (trailing-member k x p h))
+    let rest : size k (has (bitAnd x (x - 1))) ≡ size k (λ t. has x t && not (eqb (trailingZeros k x) t)) =
+    size-cong k _ _ (λ t g. has-strike k x t h) in
+    rw (ones-size k x h, ones-size k (bitAnd x (x - 1)) (and-fits k x (x - 1) h), rest)
+    (size-without k (has x) (trailingZeros k x) (trailing-lt k x p h) (trailing-member k x p h))

@@ -102,10 +102,17 @@ module _ {n set rest : ℕ} (l : Left n set rest) (p : 0 < rest) where
 
   -- taken and passing q: taken before, or the least of the rest, where it passes
   taken-next : (q : ℕ → Bool) (k : ℕ)
-      → (taken set (bitAnd rest (rest - 1)) k && q k) ≡ (taken set rest k && q k || eqb (trailingZeros 64 rest) k && q (trailingZeros 64 rest))
+      → (taken set (bitAnd rest (rest - 1)) k && q k)
+      ≡ (taken set rest k && q k || eqb (trailingZeros 64 rest) k && q (trailingZeros 64 rest))
   taken-next q k =
       let z = trailingZeros 64 rest in
-      rw (has-strike 64 rest k in-word, struck (has set k) (has rest k) (eqb z k) (λ e. rw (eqb-true z k e) at least-in), and-or-distrib-right, at-one z k q)
+      rw (
+        has-strike 64 rest k in-word,
+        struck (has set k) (has rest k) (eqb z k)
+            (λ e. rw (eqb-true z k e) at least-in),
+        and-or-distrib-right,
+        at-one z k q,
+      )
 
   pub passed-next : {q : ℕ → Bool} → q (trailingZeros 64 rest) ≡ false → Passed set rest q → Passed set (bitAnd rest (rest - 1)) q
   passed-next {q} e o = record { fails = λ k. rw (taken-next q k, o .fails k, e, and-false) }
@@ -120,10 +127,12 @@ module _ {n set rest : ℕ} (l : Left n set rest) (p : 0 < rest) where
     members = λ k. rw (has-insert 64 _ _ k (lt-of-lt-of-le least-below (l .width)), o .members k, taken-next q k, e, and-true);
   }
 
-  pub picked-without : {q : ℕ → Bool} {out : ℕ} → q (trailingZeros 64 rest) ≡ false → Picked set rest q out → Picked set (bitAnd rest (rest - 1)) q out
+  pub picked-without : {q : ℕ → Bool} {out : ℕ} → q (trailingZeros 64 rest) ≡ false → Picked set rest q out
+      → Picked set (bitAnd rest (rest - 1)) q out
   picked-without {q} e o = record { members = λ k. rw (taken-next q k, e, and-false, or-false) (o .members k) }
 
-  pub joined-next : {f : ℕ → ℕ} {out : ℕ} → Joined n set rest f out → Joined n set (bitAnd rest (rest - 1)) f (bitOr out (f (trailingZeros 64 rest)))
+  pub joined-next : {f : ℕ → ℕ} {out : ℕ} → Joined n set rest f out
+      → Joined n set (bitAnd rest (rest - 1)) f (bitOr out (f (trailingZeros 64 rest)))
   joined-next {f} j = record {
     members = λ t. rw (has-or, j .members t) (sym (any-cong n _ _ (λ s h. taken-next (λ s. has (f s) t) s) ∙ any-add n _ _ _ least-below));
   }

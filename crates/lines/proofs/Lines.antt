@@ -30,10 +30,18 @@ module _ {old : List ℕ} {at : ℕ} {a : List ℕ} {r : ℕ} {mid : List ℕ} (
         end = omega (arith, p .end, q .end);
         is =
             q .is
-            ∙ rw (p .is, p .end, e, take-at (take at old ++ a) (drop (at + length a) old) (at + length a) head-long, ← append-assoc (take at old) a b)
+            ∙ rw (
+              p .is,
+              p .end,
+              e,
+              take-at (take at old ++ a) (drop (at + length a) old) (at + length a) head-long,
+              ← append-assoc
+                  (take at old) a b,
+            )
             (ap (λ (l : List ℕ). ((take at old ++ a) ++ b) ++ l)
             (sym (drop-drop (length b) (at + length a) ((take at old ++ a) ++ drop (at + length a) old))
-            ∙ rw (drop-at (take at old ++ a) (drop (at + length a) old) (at + length a) head-long) (drop-drop (length b) (at + length a) old)));
+            ∙ rw (drop-at (take at old ++ a) (drop (at + length a) old) (at + length a) head-long)
+            (drop-drop (length b) (at + length a) old)));
       }
 
   -- room for more behind what is written
@@ -55,13 +63,19 @@ io-digits : (c r x : ℕ) → x ≤ c → io.Fewest 10 1 x (suc r) → io.digits
 unfolding digits
 io-digits zero zero x h f = rw (lt-ltb (x % 10) 10 (omega arith))
 io-digits (suc c) zero x h f = rw (lt-ltb x 10 (omega arith), lt-ltb (x % 10) 10 (omega arith))
-io-digits zero (suc r) x h f = let e : suc (suc r) - 1 ≡ suc r = omega arith in absurd (omega (arith, rw e at (f .2 (omega arith)), one-le-pow (suc r) 10 (omega arith)))
+io-digits zero (suc r) x h f = let e : suc (suc r) - 1 ≡ suc r = omega arith in
+    absurd (omega (arith, rw e at (f .2 (omega arith)), one-le-pow (suc r) 10 (omega arith)))
 io-digits (suc c) (suc r) x h f =
     let e : suc (suc r) - 1 ≡ suc r = omega arith in
     let more : 10 * 10 ^ r ≤ x = rw (← pow-succ' 10 r) (rw e at (f .2 (omega arith))) in
     let less : x < 10 * 10 ^ suc r = rw (← pow-succ' 10 (suc r)) (f .1) in
     let one = one-le-pow r 10 (omega arith) in
-    rw (le-ltb x 10 (omega arith), lt-ltb (x % 10) 10 (omega arith), ← io-digits c r (x / 10) (omega arith) (omega arith, omega arith, λ _. let d : suc r - 1 ≡ r = omega arith in rw d (omega arith)))
+    rw (
+      le-ltb x 10 (omega arith),
+      lt-ltb (x % 10) 10 (omega arith),
+      ← io-digits c r (x / 10) (omega arith)
+          (omega arith, omega arith, λ _. let d : suc r - 1 ≡ r = omega arith in rw d (omega arith)),
+    )
 
 pub written-digits : (r x : ℕ) → io.Fewest 10 1 x r → io.digits 10 r x ≡ decimal x
 unfolding decimal
@@ -96,7 +110,8 @@ unfolding listed
 listed-le i zero p = let e : zero + i ≡ i = omega arith in rw e (omega arith)
 listed-le i (suc d) p = let e : suc d + i ≡ suc (d + i) = omega arith in rw (e, length-append) (omega (arith, listed-le i d p))
 
-pub room-listed : {old : List ℕ} {at : ℕ} (n : ℕ) (p : ℕ → Bool) → Room old at (listed n p) → (i : ℕ) → i < n → Room old at (listed (suc i) p)
+pub room-listed : {old : List ℕ} {at : ℕ} (n : ℕ) (p : ℕ → Bool) → Room old at (listed n p) → (i : ℕ) → i < n
+    → Room old at (listed (suc i) p)
 room-listed n p h i g =
     let e : n - suc i + suc i ≡ n = omega arith in
     let l : length (listed (suc i) p) ≤ length (listed n p) = rw e at (listed-le (suc i) (n - suc i) p) in

@@ -53,7 +53,8 @@ module _ (b : ℕ) where
   first-passed [] _ _ = tt
   first-passed (c ∷ cs) n z = let s = split b c cs n in go (c .applies) refl (s .low) (first-passed cs (s .rest)) z
     where
-      go : (x : Bool) → c .applies ≡ x → 1 ≤ c .number → (firstOf cs ≡ 0 → Passed cs) → cond x (c .number) (firstOf cs) ≡ 0 → Passed (c ∷ cs)
+      go : (x : Bool) → c .applies ≡ x → 1 ≤ c .number → (firstOf cs ≡ 0 → Passed cs) → cond x (c .number) (firstOf cs) ≡ 0
+          → Passed (c ∷ cs)
       go true _ l _ z = absurd (omega arith)
       go false e _ f z = (e, f z)
 

@@ -23,10 +23,24 @@ module _ (x : ℕ) where
   caller h g = rw (above 1 7 (omega arith), ne-eqb x 15 (omega arith), inside 8 10 h g)
 
   pub logger : 11 ≤ x → x ≤ 13 → Logger ≡ groupOf x
-  logger h g = rw (above 1 7 (omega arith), ne-eqb x 15 (omega arith), above 8 10 (omega arith), ne-eqb x 14 (omega arith), inside 11 13 h g)
+  logger h g = rw (
+    above 1 7 (omega arith),
+    ne-eqb x 15 (omega arith),
+    above 8 10 (omega arith),
+    ne-eqb x 14
+        (omega arith),
+    inside 11 13 h g,
+  )
 
   pub nobody-low : x < 1 → Nobody ≡ groupOf x
   nobody-low h = let e : x ≡ 0 = omega arith in rw e
 
   pub nobody-high : 15 < x → Nobody ≡ groupOf x
-  nobody-high h = rw (above 1 7 (omega arith), ne-eqb x 15 (omega arith), above 8 10 (omega arith), ne-eqb x 14 (omega arith), above 11 13 (omega arith))
+  nobody-high h = rw (
+    above 1 7 (omega arith),
+    ne-eqb x 15 (omega arith),
+    above 8 10 (omega arith),
+    ne-eqb x 14
+        (omega arith),
+    above 11 13 (omega arith),
+  )

@@ -26,7 +26,8 @@ ahead S none = clash S (S .n * S .n)
 pub ahead-so : (S : Semiautomaton) → Within S → (v : Option ℕ) → ahead S v ≡ true → Ahead S v
 ahead-so S W (some zero) e = lookahead-first S W 0 (λ j h. absurd (omega arith)) (not-true (clash S 0) e)
 ahead-so S W (some (suc k)) e = with-and (clash S k) _ (λ p q.
-    lookahead-first S W (suc k) (λ j h. clash-in S W j (some-shorter S j k (omega arith) (clash-out S k p))) (not-true (clash S (suc k)) q)) e
+    lookahead-first S W (suc k) (λ j h. clash-in S W j (some-shorter S j k (omega arith) (clash-out S k p)))
+    (not-true (clash S (suc k)) q)) e
 ahead-so S W none e = let (c, w) = some-witness S W (clash-out S (S .n * S .n) e) in witness-unpredictable S c w
 
 abbrev passes : Sample → Bool

@@ -112,8 +112,10 @@ module _ (S : Semiautomaton) (L : ℕ) (c f : ℕ → ℕ) (run-f : Run S L c f)
   states-differ : (i j : ℕ) → i < j → j ≤ suc L → states i ≢ states j
   states-differ i zero h k e = absurd (omega arith)
   states-differ zero (suc zero) h k e = beside e
-  states-differ zero (suc (suc j)) h k e = tall S L c f f run-f run-f top (suc j) L (omega arith) (omega arith) (subst (λ (x : ℕ). Share S L x x) e lives)
-  states-differ (suc i) (suc j) h k e = apart S L c f f run-f run-f top i j (omega arith) (omega arith) (λ d. subst (λ (x : ℕ). Share S d x x) e)
+  states-differ zero (suc (suc j)) h k e =
+      tall S L c f f run-f run-f top (suc j) L (omega arith) (omega arith) (subst (λ (x : ℕ). Share S L x x) e lives)
+  states-differ (suc i) (suc j) h k e =
+      apart S L c f f run-f run-f top i j (omega arith) (omega arith) (λ d. subst (λ (x : ℕ). Share S d x x) e)
 
   states-bound : Within S → f 0 < S .n → t < S .n → suc (suc L) ≤ S .n
   states-bound W a b = elim (decLe (suc (suc L)) (S .n)) [ yes h ↦ h | no h ↦ absurd (crowded (omega arith)) ]
@@ -123,7 +125,8 @@ module _ (S : Semiautomaton) (L : ℕ) (c f : ℕ → ℕ) (run-f : Run S L c f)
       states-lt (suc i) h = run-lt S W L c f run-f a i (omega arith)
 
       crowded : S .n ≤ suc L → ⊥
-      crowded h = let r = repeats (S .n) states (λ i k. states-lt i (omega arith)) in states-differ (r .i) (r .j) (r .before) (omega arith) (r .same)
+      crowded h = let r = repeats (S .n) states (λ i k. states-lt i (omega arith)) in
+          states-differ (r .i) (r .j) (r .before) (omega arith) (r .same)
 
 module _ (S : Semiautomaton) (W : Within S) where
   pub lookahead-bound : (k : ℕ) → Lookahead S k → k ≤ S .n * (S .n - 1) / 2
@@ -135,7 +138,8 @@ module _ (S : Semiautomaton) (W : Within S) where
       let (x, p) = h .shared .left in
       let (y, q) = h .shared .right in
       rw (triangle-is (S .n), ← h .shared .long)
-      (pairs-bound S (length w) (λ i. getD w i 0) (trace S w (h .s) x p) (trace S w (h .t) y q) (trace-run S w (h .s) x p) (trace-run S w (h .t) y q)
+      (pairs-bound S (length w) (λ i. getD w i 0) (trace S w (h .s) x p) (trace S w (h .t) y q) (trace-run S w (h .s) x p)
+      (trace-run S w (h .t) y q)
       (rw (h .shared .long) λ sh. l .enough T c (record { s = h .s; t = h .t; rivals = h .rivals; shared = sh })) W a b (h .rivals .differ))
 
   module _ (one : S .m ≡ 1) where
@@ -160,9 +164,11 @@ module _ (S : Semiautomaton) (W : Within S) where
         }
 
     -- a rival that lives no longer than w leaves room for one state more than the walk has
-    alone : (w : List ℕ) (s t : ℕ) → s < S .n → t < S .n → t ≢ s → Spells S s w → Spells S t w → ¬ Share S (suc (length w)) s s → suc (suc (length w)) ≤ S .n
+    alone : (w : List ℕ) (s t : ℕ) → s < S .n → t < S .n → t ≢ s → Spells S s w → Spells S t w → ¬ Share S (suc (length w)) s s
+        → suc (suc (length w)) ≤ S .n
     alone w s t a b ne (x, p) q top =
-        states-bound S (length w) (λ i. getD w i 0) (trace S w s x p) (trace-run S w s x p) top t (record { word = w; long = refl; left = q; right = q }) ne W a b
+        states-bound S (length w) (λ i. getD w i 0) (trace S w s x p) (trace-run S w s x p) top t
+        (record { word = w; long = refl; left = q; right = q }) ne W a b
 
     pub lookahead-bound-one : (k : ℕ) → Lookahead S k → k ≤ S .n - 1
     lookahead-bound-one zero l = omega arith
@@ -176,4 +182,10 @@ module _ (S : Semiautomaton) (W : Within S) where
             let full : ¬ (suc (suc (length (sh .word))) ≤ S .n) = omega (arith, sh .long) in
             full (alone (sh .word) (k .s) (k .t) a b (λ e. k .rivals .differ (sym e)) (sh .left) (sh .right) λ x.
             full (alone (sh .word) (k .t) (k .s) b a (k .rivals .differ) (sh .right) (sh .left) λ y.
-            l .enough T c (record { s = k .s; t = k .t; rivals = k .rivals; shared = rw (sh .long) at (share-one (suc (length (sh .word))) (k .s) (k .t) x y) })))
+            l .enough T c (record {
+              s = k .s;
+              t = k .t;
+              rivals = k .rivals;
+              shared =
+                  rw (sh .long) at (share-one (suc (length (sh .word))) (k .s) (k .t) x y);
+            })))

@@ -71,11 +71,13 @@ pub record Agree {A B : Type 0} (R : A → B → Type 0) (s : Result A) (t : Res
   pub state : R (s .state) (t .state)
 
 module _ {A B : Type 0} (R : A → B → Type 0) where
-  pub checked-agree : (cs : List Check) (a : A) (b : B) (s : Result A) (t : Result B) → R a b → (Passed cs → Agree R s t) → Agree R (checked cs a s) (checked cs b t)
+  pub checked-agree : (cs : List Check) (a : A) (b : B) (s : Result A) (t : Result B) → R a b → (Passed cs → Agree R s t)
+      → Agree R (checked cs a s) (checked cs b t)
   checked-agree [] a b s t r h = h tt
   checked-agree (c ∷ cs) a b s t r h = go (decided (c .applies)) (checked-agree cs a b s t r)
     where
-      go : (c .applies ≡ true) ⊎ (c .applies ≡ false) → ((Passed cs → Agree R s t) → Agree R (checked cs a s) (checked cs b t)) → Agree R (checked (c ∷ cs) a s) (checked (c ∷ cs) b t)
+      go : (c .applies ≡ true) ⊎ (c .applies ≡ false) → ((Passed cs → Agree R s t) → Agree R (checked cs a s) (checked cs b t))
+          → Agree R (checked (c ∷ cs) a s) (checked (c ∷ cs) b t)
       go (inl e) ih = rw e (record { reply = refl; state = r })
       go (inr e) ih = rw e (ih (λ p. h (e, p)))
 

@@ -118,7 +118,8 @@ module _ (S : Semiautomaton) where
   unfolding longest
   longest-is W s e w = record {
     fits = greatest-le p (length w);
-    walked = walkable-out S (S .initial) (take (greatest p (length w)) w) (greatest-passes p (length w) (on [] (record { start = s; from-it = e; spells = (s, refl) })));
+    walked = walkable-out S (S .initial) (take (greatest p (length w)) w)
+        (greatest-passes p (length w) (on [] (record { start = s; from-it = e; spells = (s, refl) })));
     most = λ h l o. greatest-most p (length w) h l (on (take h w) o);
   }
     where

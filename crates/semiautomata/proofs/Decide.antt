@@ -9,7 +9,8 @@ use native.Mathlib.Decide.{ℕ-discrete}
 use Rattle.bitset.proofs.Tests.{and-in, or-left, or-right, or-cases, decided}
 use Rattle.bitset.proofs.Below.{any-in, with-any, any-out}
 use Rattle.semiautomata.specs.Semiautomaton.{Semiautomaton, Within}
-use Rattle.semiautomata.specs.Predictability.{Critical, initial, fork, member, Counts, Share, Clash, SomeClash, SetPredictable, Need, Lookahead, Unpredictable, Claim, Witness}
+use Rattle.semiautomata.specs.Predictability.{Critical, initial, fork, member, Counts, Share, Clash, SomeClash, SetPredictable, Need}
+use Rattle.semiautomata.specs.Predictability.{Lookahead, Unpredictable, Claim, Witness}
 use Rattle.semiautomata.specs.Levels.{live, counts, clashIn, clashOf, clash}
 use Rattle.semiautomata.proofs.Shares.{share-shorter, member-lt, rivals-lt, clash-shorter, clash-ordered, predictable-more}
 use Rattle.semiautomata.proofs.Levels.{with-and, live-in, live-out, live-fixed}
@@ -21,7 +22,8 @@ pub first-failure : (p : ℕ → Bool) (N : ℕ) → ((j : ℕ) → j < N → p 
 first-failure p zero = inl (λ j h. absurd (omega arith))
 first-failure p (suc N) = elim (first-failure p N) [ inr k ↦ inr k | inl all ↦ go all (decided (p N)) ]
   where
-    go : ((j : ℕ) → j < N → p j ≡ true) → (p N ≡ true) ⊎ (p N ≡ false) → ((j : ℕ) → j < suc N → p j ≡ true) ⊎ ((k : ℕ) × (p k ≡ false) × ((j : ℕ) → j < k → p j ≡ true))
+    go : ((j : ℕ) → j < N → p j ≡ true) → (p N ≡ true) ⊎ (p N ≡ false)
+        → ((j : ℕ) → j < suc N → p j ≡ true) ⊎ ((k : ℕ) × (p k ≡ false) × ((j : ℕ) → j < k → p j ≡ true))
     go all (inl e) = inl (λ j h. elim (ℕ-discrete j N) [ yes q ↦ rw q e | no q ↦ all j (omega arith) ])
     go all (inr e) = inr (N, e, all)
 
@@ -78,7 +80,8 @@ module _ (S : Semiautomaton) where
     clash-by j initial c k = or-left (clashOf S j initial) _ (clashOf-in j initial c k)
     clash-by j (fork q a) c k =
         let (t, e) = c in
-        or-right (clashOf S j initial) _ (any-in _ _ q (W .from-lt q a t e) (any-in _ _ a (W .letter-lt q a t e) (clashOf-in j (fork q a) c k)))
+        or-right (clashOf S j initial) _
+        (any-in _ _ q (W .from-lt q a t e) (any-in _ _ a (W .letter-lt q a t e) (clashOf-in j (fork q a) c k)))
 
     pub clash-in : (j : ℕ) → SomeClash S j → clash S j ≡ true
     clash-in j (T, c, k) = clash-by j T c k
@@ -91,7 +94,8 @@ module _ (S : Semiautomaton) where
     }
 
     -- .. and of one set, its need
-    pub need-first : (X : ℕ → Bool) → ((s : ℕ) → X s ≡ true → s < S .n) → (k : ℕ) → ((j : ℕ) → j < k → clashIn S X j ≡ true) → clashIn S X k ≡ false → Need S X k
+    pub need-first : (X : ℕ → Bool) → ((s : ℕ) → X s ≡ true → s < S .n) → (k : ℕ) → ((j : ℕ) → j < k → clashIn S X j ≡ true)
+        → clashIn S X k ≡ false → Need S X k
     need-first X below k before e = record {
       enough = λ h. true≢false (sym (clashIn-in X below k h) ∙ e);
       least = λ j h. clashIn-out X j (before j h);
@@ -102,7 +106,13 @@ module _ (S : Semiautomaton) where
       | inl all ↦ inr (λ k p.
           let c = clashIn-out X (S .n * S .n) (all (S .n * S .n) (omega arith)) in
           let r = c .rivals in
-          p (record { s = c .s; t = c .t; rivals = r; shared = share-ever S W (c .s) (c .t) (below (c .s) (r .left)) (below (c .t) (r .right)) (c .shared) k }))
+          p (record {
+            s = c .s;
+            t = c .t;
+            rivals = r;
+            shared =
+                share-ever S W (c .s) (c .t) (below (c .s) (r .left)) (below (c .t) (r .right)) (c .shared) k;
+          }))
       | inr (k, e, before) ↦ inl (k, need-first X below k before e)
     ]
 
@@ -147,5 +157,6 @@ module _ (S : Semiautomaton) where
         long : Share S k (h .s) (h .t)
         long =
             let (a, b) = rivals-lt W T (h .rivals) in
-            let on : live S (j + k) (h .s) (h .t) ≡ true = live-fixed S j same (j + k) (omega arith) (h .s) (h .t) a b ∙ live-in S W (h .shared) in
+            let on : live S (j + k) (h .s) (h .t) ≡ true = live-fixed S j same (j + k) (omega arith) (h .s) (h .t) a b
+            ∙ live-in S W (h .shared) in
             share-shorter (omega arith) (live-out S (j + k) (h .s) (h .t) on)

@@ -16,7 +16,8 @@ use Rattle.semiautomata.specs.Predictability.{Predictable}
 use Rattle.semiautomata.specs.Walks.{OnPlan, Possible, Only, possible}
 use Rattle.semiautomata.specs.Calls.{Reply, refused, resolved, nothing, Result, replies, final}
 use Rattle.semiautomata.specs.PlainWalk.{stateAt, plainReply, plainChecks, plainFeed, plain, plainTaken}
-use Rattle.semiautomata.specs.Demand3.{accepted, Resolution, resolutionsFrom, resolutions, followed, range, collect, resolution, due, Only11to13, Demand3}
+use Rattle.semiautomata.specs.Demand3.{accepted, Resolution, resolutionsFrom, resolutions, followed, range, collect, resolution, due}
+use Rattle.semiautomata.specs.Demand3.{Only11to13, Demand3}
 use Rattle.semiautomata.specs.Streaming.{Rec, base, unresolved, finish, streamed, recordAfter}
 use Rattle.semiautomata.proofs.Computed.{walkable-out}
 use Rattle.semiautomata.proofs.Positions.{possible-earlier, whole-in, whole-out}
@@ -36,7 +37,8 @@ module _ {A : Type 0} (q : ℕ → Bool) (f : ℕ → A) where
   collect-split (suc a) b p = rw (suc-add, add-suc) (go (q p) (collect-split a b (suc p)))
     where
       go : (t : Bool) → collect q f (range (suc p) (a + b)) ≡ collect q f (range (suc p) a) ++ collect q f (range (suc p + a) b)
-          → cond t (f p ∷ collect q f (range (suc p) (a + b))) (collect q f (range (suc p) (a + b))) ≡ cond t (f p ∷ collect q f (range (suc p) a)) (collect q f (range (suc p) a)) ++ collect q f (range (suc (p + a)) b)
+          → cond t (f p ∷ collect q f (range (suc p) (a + b))) (collect q f (range (suc p) (a + b)))
+          ≡ cond t (f p ∷ collect q f (range (suc p) a)) (collect q f (range (suc p) a)) ++ collect q f (range (suc (p + a)) b)
       go true ih = rw (ih, suc-add)
       go false ih = rw (ih, suc-add)
 
@@ -48,7 +50,8 @@ module _ {A : Type 0} (q : ℕ → Bool) (f : ℕ → A) where
   collect-all p zero h = refl
   collect-all p (suc c) h = rw (h p (omega arith) (omega arith), collect-all (suc p) c (λ i a b. h i (omega arith) (omega arith)))
 
-collect-shift : {A : Type 0} (q q′ : ℕ → Bool) (f f′ : ℕ → A) (j : ℕ) → ((i : ℕ) → q (j + i) ≡ q′ i) → ((i : ℕ) → f (j + i) ≡ f′ i) → (p c : ℕ) → collect q f (range (j + p) c) ≡ collect q′ f′ (range p c)
+collect-shift : {A : Type 0} (q q′ : ℕ → Bool) (f f′ : ℕ → A) (j : ℕ) → ((i : ℕ) → q (j + i) ≡ q′ i) → ((i : ℕ) → f (j + i) ≡ f′ i)
+    → (p c : ℕ) → collect q f (range (j + p) c) ≡ collect q′ f′ (range p c)
 collect-shift q q′ f f′ j h g p zero = refl
 collect-shift q q′ f f′ j h g p (suc c) = rw (h p, g p, ← add-suc, collect-shift q q′ f f′ j h g (suc p) c)
 
@@ -61,7 +64,8 @@ due-window k w state =
     let all : suc (length w) ≡ d + (suc (length w) - d) = omega arith in
     let first = collect-all (followed k w) f 0 d (λ i _ h. le-leb (i + k) (length w) (omega arith)) in
     let last = collect-none (followed k w) f (0 + d) (suc (length w) - d) (λ i h _. lt-leb (i + k) (length w) (omega arith)) in
-    ap (λ (c : ℕ). collect (followed k w) f (range 0 c)) all ∙ collect-split (followed k w) f d (suc (length w) - d) 0 ∙ rw (first, last) (append-nil _)
+    ap (λ (c : ℕ). collect (followed k w) f (range 0 c)) all ∙ collect-split (followed k w) f d (suc (length w) - d) 0
+    ∙ rw (first, last) (append-nil _)
 
 -- the resolutions among replies, where i letters are taken once the first is answered, unless it is a refusal
 abbrev counted : ℕ → List Reply → List Resolution
@@ -76,11 +80,13 @@ from-counted i (refused r ∷ rs) = from-counted i rs
 from-counted i (resolved p x ∷ rs) = rw (from-counted (suc i) rs)
 from-counted i (nothing ∷ rs) = from-counted (suc i) rs
 
-resolutions-counted : (S : Semiautomaton) (k : ℕ) (w : List ℕ) (rs : List Reply) → resolutions (plainReply S k w ∷ rs) ≡ counted 0 (plainReply S k w ∷ rs)
+resolutions-counted : (S : Semiautomaton) (k : ℕ) (w : List ℕ) (rs : List Reply)
+    → resolutions (plainReply S k w ∷ rs) ≡ counted 0 (plainReply S k w ∷ rs)
 unfolding plainReply
 resolutions-counted S k w rs = go (ltb (length w) k)
   where
-    go : (b : Bool) → let r = cond b nothing (resolved (length w - k) (stateAt S w (length w - k))) in resolutions (r ∷ rs) ≡ counted 0 (r ∷ rs)
+    go : (b : Bool) → let r = cond b nothing (resolved (length w - k) (stateAt S w (length w - k))) in
+        resolutions (r ∷ rs) ≡ counted 0 (r ∷ rs)
     go true = from-counted 0 rs
     go false = rw (from-counted 0 rs)
 
@@ -101,11 +107,13 @@ module _ (S : Semiautomaton) (k : ℕ) where
       go s (refuses number among) = refuses-it number among
       go s (passes (_, (_, (stuck, _)))) = takes-it (walkable-out S (S .initial) (w ++ (a ∷ [])) (not-false _ stuck))
 
-  accepted-reply : (w : List ℕ) (a : ℕ) (more : List ℕ) (rs : List Reply) → accepted (a ∷ more) (plainReply S k w ∷ rs) ≡ a ∷ accepted more rs
+  accepted-reply : (w : List ℕ) (a : ℕ) (more : List ℕ) (rs : List Reply)
+      → accepted (a ∷ more) (plainReply S k w ∷ rs) ≡ a ∷ accepted more rs
   unfolding plainReply
   accepted-reply w a more rs = go (ltb (length w) k)
     where
-      go : (b : Bool) → accepted (a ∷ more) (cond b nothing (resolved (length w - k) (stateAt S w (length w - k))) ∷ rs) ≡ a ∷ accepted more rs
+      go : (b : Bool) → accepted (a ∷ more) (cond b nothing (resolved (length w - k) (stateAt S w (length w - k))) ∷ rs)
+          ≡ a ∷ accepted more rs
       go true = refl
       go false = refl
 
@@ -114,7 +122,8 @@ module _ (S : Semiautomaton) (k : ℕ) where
   final-is [] w = sym (append-nil w)
   final-is (a ∷ rest) w = go (plainFeed S k w a) (offered-cases w a) (final-is rest)
     where
-      go : (t : Result (List ℕ)) → Offered S k w a t → ((u : List ℕ) → final (plainFeed S k) u rest ≡ u ++ accepted rest (replies (plainFeed S k) u rest)) →
+      go : (t : Result (List ℕ)) → Offered S k w a t
+          → ((u : List ℕ) → final (plainFeed S k) u rest ≡ u ++ accepted rest (replies (plainFeed S k) u rest)) →
           final (plainFeed S k) (t .state) rest ≡ w ++ accepted (a ∷ rest) (t .reply ∷ replies (plainFeed S k) (t .state) rest)
       go t (refuses-it r _) ih = ih w
       go t (takes-it o) ih = rw (accepted-reply, ih (w ++ (a ∷ [])), append-assoc)
@@ -123,7 +132,8 @@ module _ (S : Semiautomaton) (k : ℕ) where
   final-walked [] w o = o
   final-walked (a ∷ rest) w o = go (plainFeed S k w a) (offered-cases w a) (final-walked rest)
     where
-      go : (t : Result (List ℕ)) → Offered S k w a t → ((u : List ℕ) → OnPlan S u → OnPlan S (final (plainFeed S k) u rest)) → OnPlan S (final (plainFeed S k) (t .state) rest)
+      go : (t : Result (List ℕ)) → Offered S k w a t → ((u : List ℕ) → OnPlan S u → OnPlan S (final (plainFeed S k) u rest))
+          → OnPlan S (final (plainFeed S k) (t .state) rest)
       go t (refuses-it r _) ih = ih w o
       go t (takes-it o′) ih = ih (w ++ (a ∷ [])) o′
 
@@ -143,7 +153,8 @@ module _ (S : Semiautomaton) (k : ℕ) where
   replies-only [] w = tt
   replies-only (a ∷ rest) w = go (plainFeed S k w a) (offered-cases w a) (replies-only rest)
     where
-      go : (t : Result (List ℕ)) → Offered S k w a t → ((u : List ℕ) → Only11to13 (replies (plainFeed S k) u rest)) → Only11to13 (t .reply ∷ replies (plainFeed S k) (t .state) rest)
+      go : (t : Result (List ℕ)) → Offered S k w a t → ((u : List ℕ) → Only11to13 (replies (plainFeed S k) u rest))
+          → Only11to13 (t .reply ∷ replies (plainFeed S k) (t .state) rest)
       go t (takes-it o) ih = plain-only (w ++ (a ∷ [])) (replies (plainFeed S k) (w ++ (a ∷ [])) rest) (ih (w ++ (a ∷ [])))
       go t (refuses-it r (inl x)) ih = (omega arith, omega arith, ih w)
       go t (refuses-it r (inr (inl x))) ih = (omega arith, omega arith, ih w)
@@ -169,7 +180,8 @@ module _ (S : Semiautomaton) (W : Within S) (k : ℕ) (P : Predictable S k) wher
   unfolding plainReply left
   one-call state w more rs o names h = go (decided (ltb (length w) k))
     where
-      go : (ltb (length w) k ≡ true) ⊎ (ltb (length w) k ≡ false) → counted (length w) (plainReply S k w ∷ rs) ≡ left state (length (w ++ more)) (length w - k)
+      go : (ltb (length w) k ≡ true) ⊎ (ltb (length w) k ≡ false)
+          → counted (length w) (plainReply S k w ∷ rs) ≡ left state (length (w ++ more)) (length w - k)
       go (inl e) =
           let lt : length w < k = ltb-true (length w) k e in
           let z : length w - k ≡ suc (length w) - k = omega arith in
@@ -178,8 +190,10 @@ module _ (S : Semiautomaton) (W : Within S) (k : ℕ) (P : Predictable S k) wher
           let le : k ≤ length w = ltb-false (length w) k e in
           let p : ℕ = length w - k in
           let len = length-append w more in
-          let here : Possible S (S .initial) w p (state p) = possible-earlier S (S .initial) w more p (state p) (omega arith) (names p (omega (arith, len))) in
-          let same : state p ≡ stateAt S w p = only-state S W k P w p o (omega arith) .only (state p) (whole-in S w o p (state p) (omega arith) here) in
+          let here : Possible S (S .initial) w p (state p) =
+          possible-earlier S (S .initial) w more p (state p) (omega arith) (names p (omega (arith, len))) in
+          let same : state p ≡ stateAt S w p =
+          only-state S W k P w p o (omega arith) .only (state p) (whole-in S w o p (state p) (omega arith) here) in
           let next : suc (length w) - k ≡ suc p = omega arith in
           let count : suc (length (w ++ more)) - k - p ≡ suc (suc (length (w ++ more)) - k - suc p) = omega (arith, len) in
           let at : p + k ≡ length w = omega arith in
@@ -187,23 +201,27 @@ module _ (S : Semiautomaton) (W : Within S) (k : ℕ) (P : Predictable S k) wher
 
   -- all calls after w is taken
   all-calls : (state : ℕ → ℕ) (offered w : List ℕ) → Names state (final (plainFeed S k) w offered) →
-      counted (suc (length w)) (replies (plainFeed S k) w offered) ≡ left state (length (final (plainFeed S k) w offered)) (suc (length w) - k)
+      counted (suc (length w)) (replies (plainFeed S k) w offered)
+      ≡ left state (length (final (plainFeed S k) w offered)) (suc (length w) - k)
   unfolding left
   all-calls state [] w names = let z : suc (length w) - k - (suc (length w) - k) ≡ 0 = omega arith in rw z
   all-calls state (a ∷ rest) w names = go (plainFeed S k w a) (offered-cases S k w a) (all-calls state rest) names
     where
       go : (t : Result (List ℕ)) → Offered S k w a t →
           ((u : List ℕ) → Names state (final (plainFeed S k) u rest) →
-          counted (suc (length u)) (replies (plainFeed S k) u rest) ≡ left state (length (final (plainFeed S k) u rest)) (suc (length u) - k)) →
+          counted (suc (length u)) (replies (plainFeed S k) u rest)
+          ≡ left state (length (final (plainFeed S k) u rest)) (suc (length u) - k)) →
           Names state (final (plainFeed S k) (t .state) rest) →
-          counted (suc (length w)) (t .reply ∷ replies (plainFeed S k) (t .state) rest) ≡ left state (length (final (plainFeed S k) (t .state) rest)) (suc (length w) - k)
+          counted (suc (length w)) (t .reply ∷ replies (plainFeed S k) (t .state) rest)
+          ≡ left state (length (final (plainFeed S k) (t .state) rest)) (suc (length w) - k)
       go t (refuses-it r _) ih names = ih w names
       go t (takes-it o) ih names =
           let u : List ℕ = w ++ (a ∷ []) in
           let more : List ℕ = accepted rest (replies (plainFeed S k) u rest) in
           let f : final (plainFeed S k) u rest ≡ u ++ more = final-is S k rest u in
           let names′ : Names state (u ++ more) = rw f at names in
-          let ih′ : counted (suc (length u)) (replies (plainFeed S k) u rest) ≡ left state (length (u ++ more)) (suc (length u) - k) = rw f at (ih u names) in
+          let ih′ : counted (suc (length u)) (replies (plainFeed S k) u rest) ≡ left state (length (u ++ more)) (suc (length u) - k) =
+          rw f at (ih u names) in
           rw (← length-snoc w a, f) (one-call state u more (replies (plainFeed S k) u rest) o names′ ih′)
 
   finish-follows : (r : Rec) (w : List ℕ) → Follows S W k P r w → finish S k r ≡ unresolved S k (S .initial) w
@@ -221,9 +239,13 @@ module _ (S : Semiautomaton) (W : Within S) (k : ℕ) (P : Predictable S k) wher
       let same : (i : ℕ) → followed k w (j + i) ≡ followed k (r .held) i = λ i. same-test _ _
       (λ e. le-leb (i + k) (length (r .held)) (omega (arith, leb-true (j + i + k) (length w) e)))
       (λ e. le-leb (j + i + k) (length w) (omega (arith, leb-true (i + k) (length (r .held)) e))) in
-      let rest : collect q (possible S (S .initial) w) (range (0 + j) c) ≡ collect (λ i. not (followed k (r .held) i)) (possible S (base S k r) (r .held)) (range 0 c) =
-      rw (zero-add, ← add-zero j) (collect-shift q (λ i. not (followed k (r .held) i)) (possible S (S .initial) w) (possible S (base S k r) (r .held)) j (λ i. ap not (same i)) at 0 c) in
-      sym (ap (λ (c : ℕ). collect q (possible S (S .initial) w) (range 0 c)) all ∙ collect-split q (possible S (S .initial) w) j c 0 ∙ rw (first, rest))
+      let rest : collect q (possible S (S .initial) w) (range (0 + j) c)
+      ≡ collect (λ i. not (followed k (r .held) i)) (possible S (base S k r) (r .held)) (range 0 c) =
+      rw (zero-add, ← add-zero j)
+      (collect-shift q (λ i. not (followed k (r .held) i)) (possible S (S .initial) w) (possible S (base S k r) (r .held)) j
+      (λ i. ap not (same i)) at 0 c) in
+      sym (ap (λ (c : ℕ). collect q (possible S (S .initial) w) (range 0 c)) all ∙ collect-split q (possible S (S .initial) w) j c 0
+      ∙ rw (first, rest))
 
   module _ (s : ℕ) (e : S .initial s ≡ true) where
     pub plain-demand3 : (offered : List ℕ) → Demand3 S k offered (plain S k offered)
@@ -237,8 +259,10 @@ module _ (S : Semiautomaton) (W : Within S) (k : ℕ) (P : Predictable S k) wher
         let names : Names state walk = λ i h. whole-out S walk walked i (state i) (only i h .is) in
         let z : 0 - k ≡ 0 = omega arith in
         let z′ : suc (length walk) - k - 0 ≡ suc (length walk) - k = omega arith in
-        let later : counted 1 (replies (plainFeed S k) [] offered) ≡ left state (length walk) (1 - k) = rw taken-is at (all-calls state offered [] (rw taken-is names)) in
-        let all : counted 0 (plain S k offered) ≡ left state (length walk) (0 - k) = one-call state [] walk (replies (plainFeed S k) [] offered) (empty-walked S s e) names later in
+        let later : counted 1 (replies (plainFeed S k) [] offered) ≡ left state (length walk) (1 - k) =
+        rw taken-is at (all-calls state offered [] (rw taken-is names)) in
+        let all : counted 0 (plain S k offered) ≡ left state (length walk) (0 - k) =
+        one-call state [] walk (replies (plainFeed S k) [] offered) (empty-walked S s e) names later in
         record {
           start = s;
           opens = e;

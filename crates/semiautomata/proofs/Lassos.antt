@@ -41,7 +41,8 @@ module _ (S : Semiautomaton) where
   }
 
   -- two runs over the same letters that are in one pair of states twice
-  pub run-twin : (L : ℕ) (c f g : ℕ → ℕ) → Run S L c f → Run S L c g → L ≤ S .n * S .n → (i j : ℕ) → i < j → j ≤ L → f i ≡ f j → g i ≡ g j → Twin S (f 0) (g 0)
+  pub run-twin : (L : ℕ) (c f g : ℕ → ℕ) → Run S L c f → Run S L c g → L ≤ S .n * S .n → (i j : ℕ) → i < j → j ≤ L → f i ≡ f j → g i ≡ g j
+      → Twin S (f 0) (g 0)
   run-twin L c f g run-f run-g short i j h k x y = record {
     stem = spell c 0 i;
     cycle = spell c i (j - i);
@@ -54,8 +55,10 @@ module _ (S : Semiautomaton) where
   module _ (W : Within S) (s t : ℕ) (a : s < S .n) (b : t < S .n) where
     pub share-twin : Share S (S .n * S .n) s t → Twin S s t
     share-twin h =
-        let r = repeats (S .n * S .n) (λ i. ordered (S .n) (f i) (g i)) (λ i k. ordered-lt (S .n) (f i) (g i) (f-lt i (omega arith)) (g-lt i (omega arith))) in
-        let (x, y) = ordered-inj (S .n) (f (r .i)) (g (r .i)) (f-lt (r .i) (omega arith)) (g-lt (r .i) (omega arith)) (f (r .j)) (g (r .j)) (g-lt (r .j) (omega arith)) (r .same) in
+        let r = repeats (S .n * S .n) (λ i. ordered (S .n) (f i) (g i))
+        (λ i k. ordered-lt (S .n) (f i) (g i) (f-lt i (omega arith)) (g-lt i (omega arith))) in
+        let (x, y) = ordered-inj (S .n) (f (r .i)) (g (r .i)) (f-lt (r .i) (omega arith)) (g-lt (r .i) (omega arith)) (f (r .j)) (g (r .j))
+        (g-lt (r .j) (omega arith)) (r .same) in
         run-twin (length w) c f g run-f run-g (omega arith) (r .i) (r .j) (r .before) (omega arith) x y
       where
         w : List ℕ

@@ -24,7 +24,13 @@ module _ (S : Semiautomaton) where
   live-out zero s t = λ _. share-zero
   live-out (suc j) s t = with-any _ _ λ a _. with-any _ _ λ r _. with-any _ _ λ u _. with-and _ _ λ p. with-and _ _ λ q e.
       let h = live-out j r u e in
-      record { word = a ∷ h .word; long = ap suc (h .long); left = spells-cons S a (h .word) s r p (h .left); right = spells-cons S a (h .word) t u q (h .right) }
+      record {
+        word = a ∷ h .word;
+        long = ap suc (h .long);
+        left = spells-cons S a (h .word) s r p (h .left);
+        right =
+            spells-cons S a (h .word) t u q (h .right);
+      }
 
   module _ (W : Within S) where
     live-on : (j : ℕ) (w : List ℕ) (s x t y : ℕ) → length w ≡ j → Path S s w x → Path S t w y → live S j s t ≡ true

@@ -15,7 +15,8 @@ use Rattle.bitset.proofs.Below.{any-in, any-out}
 module _ (B size : ℕ → ℕ) (next : (h : ℕ) → B (suc h) ≡ B h + size h) where
   block-mono : (h N : ℕ) → h ≤ N → B h ≤ B N
   block-mono h zero l = let e : h ≡ 0 = omega arith in rw e (omega arith)
-  block-mono h (suc N) l = elim (ℕ-discrete h (suc N)) [ yes e ↦ rw e (omega arith) | no e ↦ omega (arith, next N, block-mono h N (omega arith)) ]
+  block-mono h (suc N) l =
+      elim (ℕ-discrete h (suc N)) [ yes e ↦ rw e (omega arith) | no e ↦ omega (arith, next N, block-mono h N (omega arith)) ]
 
   block-lt : (N h l : ℕ) → h < N → l < size h → B h + l < B N
   block-lt N h l a b = omega (arith, next h, block-mono (suc h) N a)
@@ -111,11 +112,13 @@ repeats (suc N) f below = go (decBelow (suc N) (λ i. f i ≡ v) (λ i. ℕ-disc
     v : ℕ
     v = f (suc N)
 
-    go : Dec ((i : ℕ) × (i < suc N) × (f i ≡ v)) → (((i : ℕ) → i ≤ N → move N v (f i) < N) → Repeat N (λ i. move N v (f i))) → Repeat (suc N) f
+    go : Dec ((i : ℕ) × (i < suc N) × (f i ≡ v)) → (((i : ℕ) → i ≤ N → move N v (f i) < N) → Repeat N (λ i. move N v (f i)))
+        → Repeat (suc N) f
     go (yes h) again = record { i = h .0; j = suc N; before = h .1; within = omega arith; same = h .2 }
     go (no none) again =
         let other : (i : ℕ) → i ≤ N → f i ≢ v = λ i h e. none (i, omega arith, e) in
-        let r = again (λ i h. move-lt N v (f i) (omega (arith, below i (omega arith))) (omega (arith, below (suc N) (omega arith))) (other i h)) in
+        let r = again (λ i h.
+        move-lt N v (f i) (omega (arith, below i (omega arith))) (omega (arith, below (suc N) (omega arith))) (other i h)) in
         record {
           i = r .i;
           j = r .j;

@@ -49,7 +49,8 @@ module _ (S : Semiautomaton) (X : ℕ → Bool) where
   }
 
   -- a possible state behind a letter has a possible state before it
-  possible-before : (w : List ℕ) (i x : ℕ) → i < length w → Possible S X w (suc i) x → (r : ℕ) × Possible S X w i r × (S .edge r (getD w i 0) x ≡ true)
+  possible-before : (w : List ℕ) (i x : ℕ) → i < length w → Possible S X w (suc i) x
+      → (r : ℕ) × Possible S X w i r × (S .edge r (getD w i 0) x ≡ true)
   possible-before w i x h c =
       let (r, p, (y, e, q)) = path-split S (take i w) (getD w i 0 ∷ []) (c .start) x (rw (take-suc w i 0 h) at (c .before)) in
       let (t, after) = c .after in
@@ -61,7 +62,8 @@ module _ (S : Semiautomaton) (X : ℕ → Bool) where
   fork-counts {t = t} c e = (t, e)
 
   -- of two different possible states that k letters follow, two rivals would share a word of k letters
-  parted : (k : ℕ) (Y : ℕ → Bool) → SetPredictable S Y k → (v : List ℕ) → k ≤ length v → (x y : ℕ) → Y x ≡ true → Y y ≡ true → Spells S x v → Spells S y v → x ≡ y
+  parted : (k : ℕ) (Y : ℕ → Bool) → SetPredictable S Y k → (v : List ℕ) → k ≤ length v → (x y : ℕ) → Y x ≡ true → Y y ≡ true → Spells S x v
+      → Spells S y v → x ≡ y
   parted k Y p v h x y a b c d = elim (ℕ-discrete x y) [
     | yes e ↦ e
     | no ne ↦ absurd (p (record {
@@ -73,13 +75,16 @@ module _ (S : Semiautomaton) (X : ℕ → Bool) where
   ]
 
   -- with k later letters two possible states are the same
-  pub possible-unique : (k : ℕ) → SetPredictable S X k → Predictable S k → (w : List ℕ) (i x y : ℕ) → i + k ≤ length w → Possible S X w i x → Possible S X w i y → x ≡ y
-  possible-unique k q P w zero x y h c d = parted k X q w (omega arith) x y (rw (c .before) at (c .from-it)) (rw (d .before) at (d .from-it)) (c .after) (d .after)
+  pub possible-unique : (k : ℕ) → SetPredictable S X k → Predictable S k → (w : List ℕ) (i x y : ℕ) → i + k ≤ length w → Possible S X w i x
+      → Possible S X w i y → x ≡ y
+  possible-unique k q P w zero x y h c d =
+      parted k X q w (omega arith) x y (rw (c .before) at (c .from-it)) (rw (d .before) at (d .from-it)) (c .after) (d .after)
   possible-unique k q P w (suc i) x y h c d =
       let (r, c′, e) = possible-before w i x (omega arith) c in
       let (u, d′, f) = possible-before w i y (omega arith) d in
       let same : u ≡ r = possible-unique k q P w i u r (omega arith) d′ c′ in
-      parted k (S .edge r (getD w i 0)) (P (fork r (getD w i 0)) (fork-counts c′ e)) (drop (suc i) w) (rw length-drop (omega arith)) x y e (rw same at f) (c .after) (d .after)
+      parted k (S .edge r (getD w i 0)) (P (fork r (getD w i 0)) (fork-counts c′ e)) (drop (suc i) w) (rw length-drop (omega arith)) x y e
+      (rw same at f) (c .after) (d .after)
 
   -- where b is the only possible state at position j of w, a longer walk may be taken to begin there, in b
   module _ (w v : List ℕ) (j b : ℕ) (h : j ≤ length w) (is : Possible S X w j b) (only : (x : ℕ) → Possible S X w j x → x ≡ b) where
@@ -87,7 +92,12 @@ module _ (S : Semiautomaton) (X : ℕ → Bool) where
     restart-walkable o =
         let (x, c) = some-possible (w ++ v) j o in
         let e : x ≡ b = only x (possible-earlier w v j x h c) in
-        record { start = b; from-it = single-in b; spells = subst (λ (x : ℕ). Spells S x (drop j w ++ v)) e (rw drop-append-le at (c .after)) }
+        record {
+          start = b;
+          from-it = single-in b;
+          spells =
+              subst (λ (x : ℕ). Spells S x (drop j w ++ v)) e (rw drop-append-le at (c .after));
+        }
 
     pub resume-walkable : Walkable S (single b) (drop j w ++ v) → Walkable S X (w ++ v)
     resume-walkable c = possible-walkable (w ++ v) j b (record {
@@ -118,11 +128,13 @@ module _ (S : Semiautomaton) (X : ℕ → Bool) where
     pub resume-possible : (i y : ℕ) → Possible S (single b) (drop j w ++ v) i y → Possible S X (w ++ v) (j + i) y
     resume-possible i y c₀ =
         let c : Possible S (single b) (drop j (w ++ v)) i y = rw drop-append-le c₀ in
-        let p : Path S b (take i (drop j (w ++ v))) y = subst (λ (x : ℕ). Path S x (take i (drop j (w ++ v))) y) (single-is b (c .start) (c .from-it)) (c .before) in
+        let p : Path S b (take i (drop j (w ++ v))) y =
+        subst (λ (x : ℕ). Path S x (take i (drop j (w ++ v))) y) (single-is b (c .start) (c .from-it)) (c .before) in
         record {
           start = is .start;
           from-it = is .from-it;
-          before = rw take-add (path-join S (take j (w ++ v)) (take i (drop j (w ++ v))) (is .start) b y (rw take-append-le (is .before)) p);
+          before = rw take-add (path-join S (take j (w ++ v)) (take i (drop j (w ++ v))) (is .start) b y
+              (rw take-append-le (is .before)) p);
           after = rw drop-drop at (c .after);
         }
 

@@ -12,7 +12,8 @@ use Rattle.bitset.proofs.Tests.{and-in, and-out, not-so}
 use Rattle.bitset.proofs.Below.{any-not, any-none, sole-size, size-sole, size-two, size-other}
 use Rattle.semiautomata.specs.Semiautomaton.{Semiautomaton, Within, Spells}
 use Rattle.semiautomata.specs.Walks.{spells, survivors}
-use Rattle.semiautomata.specs.Selectors.{Survives, Selector, MinimalSelector, MaximalNonselector, selector, minimalSelector, maximalNonselector}
+use Rattle.semiautomata.specs.Selectors.{Survives, Selector, MinimalSelector, MaximalNonselector, selector, minimalSelector}
+use Rattle.semiautomata.specs.Selectors.{maximalNonselector}
 use Rattle.semiautomata.proofs.Paths.{spells-prefix, path-split}
 use Rattle.semiautomata.proofs.Computed.{spells-out, spells-in}
 
@@ -49,7 +50,8 @@ module _ (S : Semiautomaton) (W : Within S) (X : ℕ → Bool) (below : (s : ℕ
       let (a, b) = and-out (selector S X w) _ e in
       record {
         selector = selector-out w a;
-        minimal = λ i h s. true≢false (sym (selector-in (take i w) s) ∙ any-not (length w) (λ i. selector S X (take i w)) (not-true _ b) i h);
+        minimal = λ i h s. true≢false (sym (selector-in (take i w) s)
+            ∙ any-not (length w) (λ i. selector S X (take i w)) (not-true _ b) i h);
       }
 
   pub minimal-in : (w : List ℕ) → MinimalSelector S X w → minimalSelector S X w ≡ true
@@ -75,7 +77,8 @@ module _ (S : Semiautomaton) (W : Within S) (X : ℕ → Bool) (below : (s : ℕ
         other = u;
         also = survivors-out w u o;
         differ = ne;
-        maximal = λ a v h. let (l, q) = longer w a v t h in true≢false (sym q ∙ any-not (S .m) (λ a. spells S (w ++ (a ∷ [])) t) (not-true _ c) a l);
+        maximal = λ a v h. let (l, q) = longer w a v t h in
+            true≢false (sym q ∙ any-not (S .m) (λ a. spells S (w ++ (a ∷ [])) t) (not-true _ c) a l);
       }
 
   pub maximal-in : (w : List ℕ) (t : ℕ) → MaximalNonselector S X w t → maximalNonselector S X w t ≡ true
@@ -83,5 +86,7 @@ module _ (S : Semiautomaton) (W : Within S) (X : ℕ → Bool) (below : (s : ℕ
   maximal-in w t h =
       let u = h .other in
       and-in (survivors S X w t) _ (survivors-in w t (h .survives)) (and-in (ltb 1 (size (S .n) (survivors S X w))) _
-      (lt-ltb 1 _ (size-two (S .n) (survivors S X w) u t (below u (h .also .from-it)) (below t (h .survives .from-it)) (survivors-in w u (h .also)) (survivors-in w t (h .survives)) (h .differ)))
-      (ap not (any-none (S .m) (λ a. spells S (w ++ (a ∷ [])) t) (λ a _. not-so _ (λ e. h .maximal a [] (spells-out S (w ++ (a ∷ [])) t e))))))
+      (lt-ltb 1 _ (size-two (S .n) (survivors S X w) u t (below u (h .also .from-it)) (below t (h .survives .from-it))
+      (survivors-in w u (h .also)) (survivors-in w t (h .survives)) (h .differ)))
+      (ap not (any-none (S .m) (λ a. spells S (w ++ (a ∷ [])) t)
+      (λ a _. not-so _ (λ e. h .maximal a [] (spells-out S (w ++ (a ∷ [])) t e))))))

@@ -9,7 +9,8 @@ use native.Mathlib.Decide.{decLt}
 use lib.ListN.{length, take, length-append}
 use lib.Seq.{length-take-le}
 use Rattle.semiautomata.specs.Semiautomaton.{Semiautomaton, Within, Path, Sub}
-use Rattle.semiautomata.specs.Predictability.{Critical, initial, fork, member, Counts, Share, Rivals, Clash, SetPredictable, Need, Predictable, Lookahead, Unpredictable}
+use Rattle.semiautomata.specs.Predictability.{Critical, initial, fork, member, Counts, Share, Rivals, Clash, SetPredictable, Need}
+use Rattle.semiautomata.specs.Predictability.{Predictable, Lookahead, Unpredictable}
 use Rattle.semiautomata.proofs.Paths.{path-sub, spells-after, spells-take}
 
 pub rivals-swap : {X : ℕ → Bool} {s t : ℕ} → Rivals X s t → Rivals X t s
@@ -103,7 +104,12 @@ predictable-sub {S} {L} i p T c h = p T (counts-sub T c) (record {
   s = h .s;
   t = h .t;
   shared = share-sub i (h .shared);
-  rivals = record { left = member-sub T (h .s) (h .rivals .left); right = member-sub T (h .t) (h .rivals .right); differ = h .rivals .differ };
+  rivals = record {
+    left = member-sub T (h .s) (h .rivals .left);
+    right = member-sub T (h .t) (h .rivals .right);
+    differ =
+        h .rivals .differ;
+  };
 })
   where
     member-sub : (T : Critical) (s : ℕ) → member S T s ≡ true → member L T s ≡ true

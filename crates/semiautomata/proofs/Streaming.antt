@@ -25,7 +25,8 @@ use Rattle.semiautomata.specs.PlainWalk.{limit, stateAt, plainReply, pla
 use Rattle.semiautomata.specs.Streaming.{Rec, base, rules, every, sound, latest, soleAt, settle, Undecided, settled, unopened}
 use Rattle.semiautomata.specs.Streaming.{openChecks, opened, feedChecks, feed, UndecidedBy, streamed, recordAfter}
 use Rattle.semiautomata.proofs.Computed.{walkable-out, walkable-in, possible-out, possible-in}
-use Rattle.semiautomata.proofs.Positions.{single-is, possible-lt, some-possible, possible-unique, restart-walkable, resume-walkable, restart-possible, resume-possible, whole-in, whole-out}
+use Rattle.semiautomata.proofs.Positions.{single-is, possible-lt, some-possible, possible-unique, restart-walkable, resume-walkable}
+use Rattle.semiautomata.proofs.Positions.{restart-possible, resume-possible, whole-in, whole-out}
 use Rattle.semiautomata.proofs.Calls.{behind, Agree, checked-agree, replies-agree, final-agree}
 use Rattle.refusals.proofs.First.{Passed, first-passed}
 
@@ -50,7 +51,8 @@ pub at-sole : (S : Semiautomaton) (X : ℕ → Bool) (w : List ℕ) (i x : ℕ) 
 unfolding soleAt
 at-sole S X w i x e = go (decided (eqb (size (S .n) (possible S X w i)) 1))
   where
-    go : (eqb (size (S .n) (possible S X w i)) 1 ≡ true) ⊎ (eqb (size (S .n) (possible S X w i)) 1 ≡ false) → Sole (S .n) (possible S X w i) x
+    go : (eqb (size (S .n) (possible S X w i)) 1 ≡ true) ⊎ (eqb (size (S .n) (possible S X w i)) 1 ≡ false)
+        → Sole (S .n) (possible S X w i) x
     go (inr q) = absurd (Option·none-ne-some x (rw (soleAt, q) at e))
     go (inl q) =
         let (y, s) = size-sole (S .n) (possible S X w i) (eqb-true _ _ q) in
@@ -63,7 +65,8 @@ module _ (S : Semiautomaton) (W : Within S) (X : ℕ → Bool) (below : (s : ℕ
       (possible-out S X w i x (s .member), λ y c. s .only y (possible-lt S X W below c) (possible-in S W X w i y c))
 
   possible-sole : Possible S X w i x → ((y : ℕ) → Possible S X w i y → y ≡ x) → Sole (S .n) (possible S X w i) x
-  possible-sole c only = record { below = possible-lt S X W below c; member = possible-in S W X w i x c; only = λ y _ e. only y (possible-out S X w i y e) }
+  possible-sole c only =
+      record { below = possible-lt S X W below c; member = possible-in S W X w i x c; only = λ y _ e. only y (possible-out S X w i y e) }
 
   pub sole-in : Possible S X w i x × ((y : ℕ) → Possible S X w i y → y ≡ x) → soleAt S X w i ≡ some x
   sole-in (c, only) = sole-at S X w i x (possible-sole c only)
@@ -163,7 +166,8 @@ module _ (S : Semiautomaton) (W : Within S) (k : ℕ) where
 module _ (S : Semiautomaton) (W : Within S) (k : ℕ) (P : Predictable S k) where
   -- WHERE k LETTERS FOLLOW, ONE STATE IS POSSIBLE
   module _ (X : ℕ → Bool) (below : (s : ℕ) → X s ≡ true → s < S .n) (q : SetPredictable S X k) where
-    pub sole-possible : (w : List ℕ) (i : ℕ) → Walkable S X w → i + k ≤ length w → (x : ℕ) × Possible S X w i x × Sole (S .n) (possible S X w i) x
+    pub sole-possible : (w : List ℕ) (i : ℕ) → Walkable S X w → i + k ≤ length w
+        → (x : ℕ) × Possible S X w i x × Sole (S .n) (possible S X w i) x
     sole-possible w i o h =
         let (x, c) = some-possible S X w i o in
         (x, c, possible-sole S W X below w i x c (λ y d. possible-unique S X k q P w i y x h d c))
@@ -178,7 +182,8 @@ module _ (S : Semiautomaton) (W : Within S) (k : ℕ) (P : Predictable S k) wher
       let (x, c, s) = sole-possible (S .initial) (W .initial-lt) initial-predictable w i o h in
       rw (least-sole (S .n) (possible S (S .initial) w i) x s) (record {
         is = whole-in S w o i x (omega arith) c;
-        only = λ y d. let d = whole-out S w o i y d in s .only y (possible-lt S (S .initial) W (W .initial-lt) d) (possible-in S W (S .initial) w i y d);
+        only = λ y d. let d = whole-out S w o i y d in
+            s .only y (possible-lt S (S .initial) W (W .initial-lt) d) (possible-in S W (S .initial) w i y d);
       })
 
   -- THE RECORD r AFTER THE LETTERS w ARE TAKEN
@@ -213,16 +218,21 @@ module _ (S : Semiautomaton) (W : Within S) (k : ℕ) (P : Predictable S k) wher
       let b : ℕ = r .last in
       let fits : j ≤ length w = omega arith in
       let is : Possible S (S .initial) w j b = f .last-is h in
-      let only : (x : ℕ) → Possible S (S .initial) w j x → x ≡ b = λ x c. possible-unique S (S .initial) k initial-predictable P w j x b (omega arith) c is in
+      let only : (x : ℕ) → Possible S (S .initial) w j x → x ≡ b =
+      λ x c. possible-unique S (S .initial) k initial-predictable P w j x b (omega arith) c is in
       let more : ltb (r .fed) k ≡ false = le-ltb (r .fed) k (omega arith) in
       let b-lt : b < S .n = possible-lt S (S .initial) W (W .initial-lt) is in
       record {
         can = rw (more, f .held-are) (same-test _ _
-            (λ e. walkable-in S W (S .initial) (W .initial-lt) (w ++ v) (resume-walkable S (S .initial) w v j b fits is only (walkable-out S (single b) (drop j w ++ v) e)))
-            (λ e. walkable-in S W (single b) (λ s e. rw (single-is b s e) b-lt) (drop j w ++ v) (restart-walkable S (S .initial) w v j b fits is only (walkable-out S (S .initial) (w ++ v) e))));
+            (λ e. walkable-in S W (S .initial) (W .initial-lt) (w ++ v)
+            (resume-walkable S (S .initial) w v j b fits is only (walkable-out S (single b) (drop j w ++ v) e)))
+            (λ e. walkable-in S W (single b) (λ s e. rw (single-is b s e) b-lt) (drop j w ++ v)
+            (restart-walkable S (S .initial) w v j b fits is only (walkable-out S (S .initial) (w ++ v) e))));
         at = λ i. rw (more, f .held-are) (fun-ext (λ y. same-test _ _
-            (λ e. possible-in S W (S .initial) (w ++ v) (j + i) y (resume-possible S (S .initial) w v j b fits is only i y (possible-out S (single b) (drop j w ++ v) i y e)))
-            (λ e. possible-in S W (single b) (drop j w ++ v) i y (restart-possible S (S .initial) w v j b fits is only i y (possible-out S (S .initial) (w ++ v) (j + i) y e)))));
+            (λ e. possible-in S W (S .initial) (w ++ v) (j + i) y
+            (resume-possible S (S .initial) w v j b fits is only i y (possible-out S (single b) (drop j w ++ v) i y e)))
+            (λ e. possible-in S W (single b) (drop j w ++ v) i y
+            (restart-possible S (S .initial) w v j b fits is only i y (possible-out S (S .initial) (w ++ v) (j + i) y e)))));
         last-ok = rw more (lt-ltb b (S .n) b-lt);
       }
 
@@ -241,7 +251,8 @@ module _ (S : Semiautomaton) (W : Within S) (k : ℕ) (P : Predictable S k) wher
   held-next r w v f =
       let fits : length w - k ≤ length w = omega arith in
       let o : length w - k + (length (latest k w ++ v) - k) ≡ length (w ++ v) - k = rw (f .held-are) at (offset r w v f) in
-      rw (f .held-are, ← o, ← drop-append-le (length w - k) w v fits) (drop-drop (length (drop (length w - k) (w ++ v)) - k) (length w - k) (w ++ v))
+      rw (f .held-are, ← o, ← drop-append-le (length w - k) w v fits)
+      (drop-drop (length (drop (length w - k) (w ++ v)) - k) (length w - k) (w ++ v))
 
   pub follows-sound : (r : Rec) (w : List ℕ) → Follows r w → sound S k r ≡ true
   unfolding sound
@@ -254,21 +265,40 @@ module _ (S : Semiautomaton) (W : Within S) (k : ℕ) (P : Predictable S k) wher
 
   -- ONE CALL. What is settled from the set X and the letters u is what the plain walk replies once w is taken
   settled-agrees : (X : ℕ → Bool) (old : Rec) (fed : ℕ) (u w : List ℕ) → fed ≡ length w → latest k u ≡ latest k w
-      → possible S X u (length u - k) ≡ possible S (S .initial) w (length w - k) → (length w < k → old .last ≡ 255) → length w ≤ limit → OnPlan S w
+      → possible S X u (length u - k) ≡ possible S (S .initial) w (length w - k) → (length w < k → old .last ≡ 255)
+      → length w ≤ limit → OnPlan S w
       → Agree Follows (settled S k X old fed u) (record { reply = plainReply S k w; state = w })
   unfolding settle plainReply stateAt
   settled-agrees X old fed u w l held same last room o = go (decided (ltb (length w) k))
     where
-      go : (ltb (length w) k ≡ true) ⊎ (ltb (length w) k ≡ false) → Agree Follows (settled S k X old fed u) (record { reply = plainReply S k w; state = w })
+      go : (ltb (length w) k ≡ true) ⊎ (ltb (length w) k ≡ false)
+          → Agree Follows (settled S k X old fed u) (record { reply = plainReply S k w; state = w })
       go (inl e) =
           let lt : length w < k = ltb-true (length w) k e in
-          rw (l, settle, e) (record { reply = refl; state = record { fed-are = refl; held-are = held; last-none = last; last-is = λ h. absurd (omega arith); room = room; walked = o } })
+          rw (l, settle, e) (record {
+            reply = refl;
+            state =
+                record { fed-are = refl; held-are = held; last-none = last; last-is = λ h. absurd (omega arith); room = room; walked = o };
+          })
       go (inr e) =
           let le : k ≤ length w = ltb-false (length w) k e in
           let (x, c, s) = sole-possible (S .initial) (W .initial-lt) initial-predictable w (length w - k) o (omega arith) in
           let one : soleAt S X u (length u - k) ≡ some x = sole-at S X u (length u - k) x (rw same s) in
           let is = least-sole (S .n) (possible S (S .initial) w (length w - k)) x s in
-          rw (l, settle, e, one, is) (record { reply = refl; state = record { fed-are = refl; held-are = held; last-none = λ h. absurd (omega arith); last-is = λ _. c; room = room; walked = o } })
+          rw (l, settle, e, one, is)
+          (record {
+            reply = refl;
+            state =
+                record {
+                  fed-are = refl;
+                  held-are = held;
+                  last-none = λ h. absurd (omega arith);
+                  last-is = λ _. c;
+                  room =
+                      room;
+                  walked = o;
+                };
+          })
 
   pub feed-agrees : (r : Rec) (w : List ℕ) (a : ℕ) → Follows r w → Agree Follows (feed S k r a) (plainFeed S k w a)
   unfolding feed plainFeed
@@ -294,10 +324,15 @@ module _ (S : Semiautomaton) (W : Within S) (k : ℕ) (P : Predictable S k) wher
     -- for every list of letters offered
     pub streamed-plain : (offered : List ℕ) → streamed S k offered ≡ plain S k offered
     streamed-plain offered =
-        rw (opened-agrees .reply, replies-agree Follows (feed S k) (plainFeed S k) feed-agrees offered (opened S k .state) [] (opened-agrees .state))
+        rw (
+          opened-agrees .reply,
+          replies-agree Follows (feed S k) (plainFeed S k) feed-agrees offered (opened S k .state) []
+              (opened-agrees .state),
+        )
 
     pub record-follows : (offered : List ℕ) → Follows (recordAfter S k offered) (plainTaken S k offered)
-    record-follows offered = final-agree Follows (feed S k) (plainFeed S k) feed-agrees offered (opened S k .state) [] (opened-agrees .state)
+    record-follows offered =
+        final-agree Follows (feed S k) (plainFeed S k) feed-agrees offered (opened S k .state) [] (opened-agrees .state)
 
     -- opening is not refused
     pub opened-some : (r : ℕ) → ¬ (opened S k .reply ≡ refused r)
@@ -316,7 +351,8 @@ module _ (S : Semiautomaton) (W : Within S) (k : ℕ) (P : Predictable S k) wher
     where
       go : (ltb (r .fed) k ≡ true) ⊎ (ltb (r .fed) k ≡ false) → SetPredictable S (base S k r) k
       go (inl e) = rw e initial-predictable
-      go (inr e) = rw e (λ c. let is = single-is (r .last) in c .rivals .differ (is (c .s) (c .rivals .left) ∙ sym (is (c .t) (c .rivals .right))))
+      go (inr e) = rw e (λ c. let is = single-is (r .last) in
+          c .rivals .differ (is (c .s) (c .rivals .left) ∙ sym (is (c .t) (c .rivals .right))))
 
   -- k letters follow the position that is due, so two states are not possible there
   pub never-14 : (r : Rec) (a : ℕ) → ¬ (feed S k r a .reply ≡ refused 14)

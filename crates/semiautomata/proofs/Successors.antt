@@ -39,7 +39,8 @@ module _ (n m i : ℕ) (h : i < n * m) where
 
 module _ (n m starts : ℕ) (sets : List ℕ) where
   -- an edge of them is a bit of the set at its place
-  pub edge-out : (q a t : ℕ) → successors n m starts sets .edge q a t ≡ true → (q < n) × (a < m) × (has (getD sets (place m q a) 0) t ≡ true)
+  pub edge-out : (q a t : ℕ) → successors n m starts sets .edge q a t ≡ true
+      → (q < n) × (a < m) × (has (getD sets (place m q a) 0) t ≡ true)
   edge-out q a t e =
       let (h, e) = and-out (ltb q n) _ e in
       let (g, e) = and-out (ltb a m) _ e in
@@ -53,7 +54,8 @@ module _ (n m starts : ℕ) (sets : List ℕ) where
     initial-lt = λ s e. has-lt n starts s h e;
     from-lt = λ s a t e. edge-out s a t e .0;
     letter-lt = λ s a t e. edge-out s a t e .1;
-    to-lt = λ s a t e. let (h, g, e) = edge-out s a t e in has-lt n (getD sets (place m s a) 0) t (f .below (place m s a) (place-lt n m s a h g)) e;
+    to-lt = λ s a t e. let (h, g, e) = edge-out s a t e in
+        has-lt n (getD sets (place m s a) 0) t (f .below (place m s a) (place-lt n m s a h g)) e;
   }
 
 -- numbers that hold the sets of S, which lies within n states and m letters, are S
@@ -67,4 +69,5 @@ successors-are S W starts sets initial edge =
     same : (q a t : ℕ) → successors (S .n) (S .m) starts sets .edge q a t ≡ S .edge q a t
     same q a t = same-test _ _
         (λ e. let (h, g, e) = edge-out (S .n) (S .m) starts sets q a t e in sym (edge q a t h g) ∙ e)
-        (λ e. let h = W .from-lt q a t e in let g = W .letter-lt q a t e in edge-is (S .n) (S .m) starts sets q a t h g ∙ edge q a t h g ∙ e)
+        (λ e. let h = W .from-lt q a t e in let g = W .letter-lt q a t e in edge-is (S .n) (S .m) starts sets q a t h g
+        ∙ edge q a t h g ∙ e)

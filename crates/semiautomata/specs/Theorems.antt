@@ -8,10 +8,13 @@ use mathlib.Core.Logic.{_⊎_, _↔_}
 use mathlib.Core.List.{List, [], _++_}
 use lib.ListN.{length}
 use Rattle.semiautomata.specs.Semiautomaton.{Semiautomaton, Within, Spells, Accessible, Sub}
-use Rattle.semiautomata.specs.Predictability.{Critical, Counts, Share, Clash, SomeClash, SetPredictable, Need, Predictable, Lookahead, Unpredictable, Claim, Witness}
+use Rattle.semiautomata.specs.Predictability.{Critical, Counts, Share, Clash, SomeClash, SetPredictable, Need, Predictable, Lookahead}
+use Rattle.semiautomata.specs.Predictability.{Unpredictable, Claim, Witness}
 use Rattle.semiautomata.specs.Levels.{live, counts, clashIn, clash, Repeats}
-use Rattle.semiautomata.specs.Walks.{Walkable, OnPlan, Longest, Possible, PossibleAt, Only, spells, survivors, walkable, possible, longest}
-use Rattle.semiautomata.specs.Selectors.{Survives, Selector, MinimalSelector, MaximalNonselector, selector, minimalSelector, maximalNonselector}
+use Rattle.semiautomata.specs.Walks.{Walkable, OnPlan, Longest, Possible, PossibleAt, Only, spells, survivors, walkable, possible}
+use Rattle.semiautomata.specs.Walks.{longest}
+use Rattle.semiautomata.specs.Selectors.{Survives, Selector, MinimalSelector, MaximalNonselector, selector, minimalSelector}
+use Rattle.semiautomata.specs.Selectors.{maximalNonselector}
 use Rattle.semiautomata.specs.Calls.{refused}
 use Rattle.refusals.specs.Checks.{firstOf}
 use Rattle.semiautomata.specs.PlainWalk.{stateAt, plain, plainTaken}
@@ -73,7 +76,8 @@ pub record Theorems (S : Semiautomaton) : Type 0 where
   pub survivors-is : Within S → (X : ℕ → Bool) → Below S X → (w : List ℕ) (t : ℕ) → (survivors S X w t ≡ true) ↔ Survives S X w t
   pub selector-is : Within S → (X : ℕ → Bool) → Below S X → (w : List ℕ) → (selector S X w ≡ true) ↔ Selector S X w
   pub minimal-is : Within S → (X : ℕ → Bool) → Below S X → (w : List ℕ) → (minimalSelector S X w ≡ true) ↔ MinimalSelector S X w
-  pub maximal-is : Within S → (X : ℕ → Bool) → Below S X → (w : List ℕ) (t : ℕ) → (maximalNonselector S X w t ≡ true) ↔ MaximalNonselector S X w t
+  pub maximal-is : Within S → (X : ℕ → Bool) → Below S X → (w : List ℕ) (t : ℕ)
+      → (maximalNonselector S X w t ≡ true) ↔ MaximalNonselector S X w t
   -- THE STREAMING RULE, with a k for which S is k-predictable
   -- opening is refused exactly if there is no initial state
   pub opening-refused : (k : ℕ) → ((s : ℕ) → S .initial s ≡ false) → opened S k .reply ≡ refused 13
@@ -89,7 +93,8 @@ pub record Theorems (S : Semiautomaton) : Type 0 where
   pub feeding-14 : Within S → (k : ℕ) (r : Rec) (a : ℕ)
       → (feed S k r a .reply ≡ refused 14) ↔ ((firstOf (feedChecks S k r a) ≡ 0) × UndecidedBy S k r a)
   -- from a fresh opening on, it replies as the plain walk to every list of letters offered; so 10 and 14 are never met there
-  pub as-plain : Within S → (k : ℕ) → Predictable S k → (s : ℕ) → S .initial s ≡ true → (offered : List ℕ) → streamed S k offered ≡ plain S k offered
+  pub as-plain : Within S → (k : ℕ) → Predictable S k → (s : ℕ) → S .initial s ≡ true → (offered : List ℕ)
+      → streamed S k offered ≡ plain S k offered
   pub plain-refusals : (k : ℕ) (offered : List ℕ) → Only11to13 (plain S k offered)
   -- the letters that the plain walk takes are on the plan
   pub plain-on-plan : (k s : ℕ) → S .initial s ≡ true → (offered : List ℕ) → OnPlan S (plainTaken S k offered)
@@ -97,4 +102,5 @@ pub record Theorems (S : Semiautomaton) : Type 0 where
   pub ending : Within S → (k : ℕ) → Predictable S k → (s : ℕ) → S .initial s ≡ true → (offered : List ℕ)
       → finish S k (recordAfter S k offered) ≡ unresolved S k (S .initial) (plainTaken S k offered)
   -- DEMAND 3
-  pub demand3 : Within S → (k : ℕ) → Lookahead S k → (s : ℕ) → S .initial s ≡ true → (offered : List ℕ) → Demand3 S k offered (streamed S k offered)
+  pub demand3 : Within S → (k : ℕ) → Lookahead S k → (s : ℕ) → S .initial s ≡ true → (offered : List ℕ)
+      → Demand3 S k offered (streamed S k offered)

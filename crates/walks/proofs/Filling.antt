@@ -30,7 +30,8 @@ pub record Forth (n m : ℕ) (sets : List ℕ) (set : ℕ) (w old : List ℕ) (h
   pub written : (j : ℕ) → j ≤ g → getD out j 0 ≡ setOf n (reach (bare n m sets) (has set) (take j w))
   pub kept : drop (suc g) out ≡ drop (suc g) old
 
-pub forth-first : {n m : ℕ} {sets : List ℕ} {set : ℕ} {w : List ℕ} (old : List ℕ) → set < 2 ^ n → ¬ (set ≡ 0) → suc (length w) ≤ length old → Forth n m sets set w (L.set old 0 set) set 0 (L.set old 0 set)
+pub forth-first : {n m : ℕ} {sets : List ℕ} {set : ℕ} {w : List ℕ} (old : List ℕ) → set < 2 ^ n → ¬ (set ≡ 0) → suc (length w) ≤ length old
+    → Forth n m sets set w (L.set old 0 set) set 0 (L.set old 0 set)
 forth-first {n} {set = set} old h some room =
     let e = sym (setOf-has n set h) in record {
       at = omega arith;
@@ -42,7 +43,8 @@ forth-first {n} {set = set} old h some room =
     }
 
 module _ {n m : ℕ} {sets : List ℕ} {set : ℕ} {w old : List ℕ} {here g : ℕ} {out : List ℕ} (o : Forth n m sets set w old here g out) where
-  pub forth-next : suc (length w) ≤ length old → g < length w → {next : ℕ} → next ≡ setOf n (reach (bare n m sets) (has set) (take (g + 1) w)) → ¬ (next ≡ 0)
+  pub forth-next : suc (length w) ≤ length old → g < length w → {next : ℕ}
+      → next ≡ setOf n (reach (bare n m sets) (has set) (take (g + 1) w)) → ¬ (next ≡ 0)
       → Forth n m sets set w old next (g + 1) (L.set out (g + 1) next)
   forth-next room h {next} e some = record {
     at = omega arith;
@@ -55,18 +57,21 @@ module _ {n m : ℕ} {sets : List ℕ} {set : ℕ} {w old : List ℕ} {here g : 
     ];
     kept =
         let q : suc (g + 1) ≡ suc g + 1 = omega arith in
-        drop-set-lt (suc (g + 1)) out (g + 1) next (omega arith) ∙ rw q (sym (drop-drop 1 (suc g) out) ∙ ap (drop 1) (o .kept) ∙ drop-drop 1 (suc g) old);
+        drop-set-lt (suc (g + 1)) out (g + 1) next (omega arith)
+        ∙ rw q (sym (drop-drop 1 (suc g) out) ∙ ap (drop 1) (o .kept) ∙ drop-drop 1 (suc g) old);
   }
 
   -- where the letters end, or the next one leads nowhere
-  pub forth-longest : Fit n m sets → set < 2 ^ n → (g < length w → any n (reach (bare n m sets) (has set) (take (g + 1) w)) ≡ false) → g ≡ longest (successors n m set sets) w
+  pub forth-longest : Fit n m sets → set < 2 ^ n → (g < length w → any n (reach (bare n m sets) (has set) (take (g + 1) w)) ≡ false)
+      → g ≡ longest (successors n m set sets) w
   forth-longest f below next =
       longest-at (successors n m set sets) (fit-within n m set sets f below) w g (o .at)
       (rw (reach-bare n m set sets (has set) (take g w)) (some-of n _ (o .is) (o .some)))
       (λ h. rw (reach-bare n m set sets (has set) (take (g + 1) w)) (next h))
 
 -- the buffer keeps its rest also from before the first set was written
-pub forth-written : {n m : ℕ} {sets : List ℕ} {set : ℕ} {w old : List ℕ} {here g : ℕ} {out : List ℕ} → Forth n m sets set w (L.set old 0 set) here g out
+pub forth-written : {n m : ℕ} {sets : List ℕ} {set : ℕ} {w old : List ℕ} {here g : ℕ} {out : List ℕ}
+    → Forth n m sets set w (L.set old 0 set) here g out
     → Written n (take g w) (λ i. reach (bare n m sets) (has set) (take i (take g w))) old out
 forth-written {set = set} {w = w} {old = old} {g = g} o =
     let e = length-take-le g w (o .at) in record {
@@ -86,7 +91,8 @@ pub record Backed (n m : ℕ) (sets : List ℕ) (set : ℕ) (w old : List ℕ) (
   pub kept : drop (suc (length w)) out ≡ drop (suc (length w)) old
 
 pub backed-first : {n m : ℕ} {sets : List ℕ} {set : ℕ} {w old : List ℕ} → Letters m w → suc (length w) ≤ length old
-    → ((j : ℕ) → j ≤ length w → getD old j 0 ≡ setOf n (reach (bare n m sets) (has set) (take j w))) → Backed n m sets set w old (length w) old
+    → ((j : ℕ) → j ≤ length w → getD old j 0 ≡ setOf n (reach (bare n m sets) (has set) (take j w)))
+    → Backed n m sets set w old (length w) old
 backed-first {n} {m} {sets} {set} {w} l h came = record {
   letters = l;
   room = h;
@@ -117,7 +123,8 @@ module _ {n m : ℕ} {sets : List ℕ} {set : ℕ} {w old : List ℕ} {i : ℕ} 
     letter-lt = o .letters .below (i - 1) (omega arith)
 
     pub backed-next : {v : ℕ}
-        → v ≡ setOf n (λ s. has (getD out (i - 1) 0) s && any n (λ t. has (getD out (i - 1 + 1) 0) t && has (getD sets (place m s (getD w (i - 1) 0)) 0) t))
+        → v ≡ setOf n (λ s. has (getD out (i - 1) 0) s
+        && any n (λ t. has (getD out (i - 1 + 1) 0) t && has (getD sets (place m s (getD w (i - 1) 0)) 0) t))
         → Backed n m sets set w old (i - 1) (L.set out (i - 1) v)
     backed-next {v} e = record {
       letters = o .letters;
@@ -126,7 +133,8 @@ module _ {n m : ℕ} {sets : List ℕ} {set : ℕ} {w old : List ℕ} {i : ℕ} 
       long = length-set out (i - 1) v ∙ o .long;
       below = λ j x. getD-set-other out (i - 1) j v 0 (λ q. omega arith) ∙ o .below j (omega arith);
       written = λ j x y. elim (ℕ-discrete j (i - 1)) [
-        | yes q ↦ rw (q, getD-set-same out (i - 1) v 0 (omega (arith, o .long, o .room))) (back-set n m sets (has set) w (i - 1) _ _ v (omega arith) letter-lt here next e)
+        | yes q ↦ rw (q, getD-set-same out (i - 1) v 0 (omega (arith, o .long, o .room)))
+            (back-set n m sets (has set) w (i - 1) _ _ v (omega arith) letter-lt here next e)
         | no q ↦ getD-set-other out (i - 1) j v 0 q ∙ o .written j (omega arith) y
       ];
       kept = drop-set-lt (suc (length w)) out (i - 1) v (omega arith) ∙ o .kept;

@@ -21,7 +21,11 @@ module _ (m : ℕ) (w : List ℕ) where
 
 -- of a part of a word
 pub letters-take : {m : ℕ} {w : List ℕ} (i : ℕ) → Letters m w → Letters m (take i w)
-letters-take {m} {w} i l = record { below = λ j h. let g = rw length-take at h in let s : j < i = omega arith in rw (getD-take i w j 0 s) (l .below j (omega arith)) }
+letters-take {m} {w} i l =
+    record {
+      below = λ j h. let g = rw length-take at h in let s : j < i = omega arith in
+          rw (getD-take i w j 0 s) (l .below j (omega arith));
+    }
 
 pub letters-drop : {m : ℕ} {w : List ℕ} (i : ℕ) → Letters m w → Letters m (drop i w)
 letters-drop {m} {w} i l = record { below = λ j h. let g = rw length-drop at h in rw (getD-drop i w j 0) (l .below (i + j) (omega arith)) }

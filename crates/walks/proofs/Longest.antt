@@ -25,7 +25,13 @@ module _ (S : Semiautomaton) (W : Within S) (w : List ℕ) where
 
   -- the language is prefix-closed
   on-plan-take : (g h : ℕ) → g ≤ h → OnPlan S (take h w) → OnPlan S (take g w)
-  on-plan-take g h l o = record { start = o .start; from-it = o .from-it; spells = rw (take-take g h w l) at (spells-take S g (take h w) (o .start) (o .spells)) }
+  on-plan-take g h l o =
+      record {
+        start = o .start;
+        from-it = o .from-it;
+        spells =
+            rw (take-take g h w l) at (spells-take S g (take h w) (o .start) (o .spells));
+      }
 
   -- the walk leads somewhere by g letters, and by one more nowhere
   module _ (g : ℕ) (fits : g ≤ length w) (here : any (S .n) (reach S (S .initial) (take g w)) ≡ true)
@@ -38,12 +44,15 @@ module _ (S : Semiautomaton) (W : Within S) (w : List ℕ) where
       | no k ↦ omega arith
       | yes k ↦
           let o = on-plan-take (g + 1) h (omega arith) o in
-          absurd (true≢false (sym (walkable-in S W (S .initial) (W .initial-lt) _ o) ∙ walkable-reach S W (S .initial) (W .initial-lt) _ ∙ next (omega arith)))
+          absurd (true≢false (sym (walkable-in S W (S .initial) (W .initial-lt) _ o) ∙ walkable-reach S W (S .initial) (W .initial-lt) _
+          ∙ next (omega arith)))
     ]
 
     pub longest-at : g ≡ longest S w
-    longest-at = longest-unique S w g _ (record { fits = fits; walked = walked; most = most }) (longest-is S W (walked .start) (walked .from-it) w)
+    longest-at = longest-unique S w g _ (record { fits = fits; walked = walked; most = most })
+        (longest-is S W (walked .start) (walked .from-it) w)
 
   -- a word that leads somewhere is its own longest beginning
   pub longest-whole : any (S .n) (reach S (S .initial) w) ≡ true → {g : ℕ} → g ≡ longest S w → take g w ≡ w
-  longest-whole some {g} e = take-all g w (omega (arith, e, longest-at (length w) (omega arith) (rw (take-length w) some) (λ h. absurd (omega arith))))
+  longest-whole some {g} e =
+      take-all g w (omega (arith, e, longest-at (length w) (omega arith) (rw (take-length w) some) (λ h. absurd (omega arith))))

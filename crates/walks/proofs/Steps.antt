@@ -40,7 +40,8 @@ module _ (n m starts : ℕ) (sets : List ℕ) where
   spells-bare [] s = refl
   spells-bare (a ∷ w) s = any-cong n _ _ (λ r h. rw (spells-bare w r))
 
-  pub possible-bare : (X : ℕ → Bool) (w : List ℕ) (i x : ℕ) → possible (successors n m starts sets) X w i x ≡ possible (bare n m sets) X w i x
+  pub possible-bare : (X : ℕ → Bool) (w : List ℕ) (i x : ℕ)
+      → possible (successors n m starts sets) X w i x ≡ possible (bare n m sets) X w i x
   unfolding possible
   possible-bare X w i x = rw (reach-bare X (take i w), spells-bare (drop i w) x)
 
@@ -59,7 +60,8 @@ module _ {n m : ℕ} {sets : List ℕ} (f : Fit n m sets) {a : ℕ} (h : a < m) 
       → (starts : ℕ) → out ≡ setOf n (step (successors n m starts sets) (has set) a)
   unfolding step
   gathered {set} l e j starts =
-      joined-all l e set-below j ∙ setOf-cong n _ _ (λ t _. any-cong n _ _ (λ s g. ap (λ (b : Bool). has set s && b) (sym (edge-is n m starts sets s a t g h))))
+      joined-all l e set-below j
+      ∙ setOf-cong n _ _ (λ t _. any-cong n _ _ (λ s g. ap (λ (b : Bool). has set s && b) (sym (edge-is n m starts sets s a t g h))))
 
 -- a step looks at the members below n alone
 pub step-members : (S : Semiautomaton) (X : ℕ → Bool) (a : ℕ) (t : ℕ) → step S (has (setOf (S .n) X)) a t ≡ step S X a t

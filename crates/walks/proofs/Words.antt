@@ -53,9 +53,11 @@ module _ (S : Semiautomaton) (X : ℕ → Bool) (w : List ℕ) (i : ℕ) (h : i 
   next-set here next e d = rw (add-one, reach-next, d, e) (setOf-cong _ _ _ (λ t _. step-members S _ _ t))
 
   -- one letter back: what the letter leads to from a state reached before it is reached by it
-  possible-back : (s : ℕ) → s < S .n → (reach S X (take i w) s && any (S .n) (λ t. possible S X w (suc i) t && S .edge s (getD w i 0) t)) ≡ possible S X w i s
+  possible-back : (s : ℕ) → s < S .n
+      → (reach S X (take i w) s && any (S .n) (λ t. possible S X w (suc i) t && S .edge s (getD w i 0) t)) ≡ possible S X w i s
   unfolding possible spells step
-  possible-back s g = rw (drop-cons w i 0 h, reach-next) (led (S .n) (reach S X (take i w) s) (step S (reach S X (take i w)) (getD w i 0)) (spells S (drop (suc i) w)) (S .edge s (getD w i 0))
+  possible-back s g = rw (drop-cons w i 0 h, reach-next)
+      (led (S .n) (reach S X (take i w) s) (step S (reach S X (take i w)) (getD w i 0)) (spells S (drop (suc i) w)) (S .edge s (getD w i 0))
       (λ r t e. any-in (S .n) (λ s. reach S X (take i w) s && S .edge s (getD w i 0) t) s g (and-in _ _ r e)))
 
 -- the same over successor sets and numbers
@@ -89,24 +91,30 @@ module _ {n m : ℕ} {sets : List ℕ} (f : Fit n m sets) {s : ℕ} (h : s < n) 
     alone-walkable : walkable (bare n m sets) (has (alone s)) w ≡ spells (bare n m sets) w s
     unfolding walkable
     alone-walkable = same-test _ _
-        (with-any n _ (λ t g e. let (d, q) = and-out (has (alone s) t) (spells (bare n m sets) w t) e in rw (eqb-true s t (rw (alone-has t) at d)) q))
+        (with-any n _ (λ t g e. let (d, q) = and-out (has (alone s) t) (spells (bare n m sets) w t) e in
+        rw (eqb-true s t (rw (alone-has t) at d)) q))
         (λ e. any-in n _ s h (and-in _ _ (alone-has s ∙ eq-eqb s s refl) e))
 
     -- s can walk the word exactly where the word leads somewhere
     alone-reach : any n (reach (bare n m sets) (has (alone s)) w) ≡ spells (bare n m sets) w s
-    alone-reach = sym (walkable-reach (bare n m sets) (bare-within f) (has (alone s)) (λ t e. has-lt n (alone s) t alone-lt e) w) ∙ alone-walkable
+    alone-reach = sym (walkable-reach (bare n m sets) (bare-within f) (has (alone s)) (λ t e. has-lt n (alone s) t alone-lt e) w)
+        ∙ alone-walkable
 
   -- the same of one letter more
-  pub alone-step : (w : List ℕ) {r : ℕ} → r ≡ setOf n (reach (bare n m sets) (has (alone s)) w) → (a : ℕ) → any n (step (bare n m sets) (has r) a) ≡ spells (bare n m sets) (w ++ (a ∷ [])) s
+  pub alone-step : (w : List ℕ) {r : ℕ} → r ≡ setOf n (reach (bare n m sets) (has (alone s)) w) → (a : ℕ)
+      → any n (step (bare n m sets) (has r) a) ≡ spells (bare n m sets) (w ++ (a ∷ [])) s
   alone-step w e a =
-      rw e (any-cong n _ _ (λ t _. step-members (bare n m sets) _ a t)) ∙ rw (reach-append (bare n m sets) (has (alone s)) w (a ∷ [])) at (alone-reach (w ++ (a ∷ [])))
+      rw e (any-cong n _ _ (λ t _. step-members (bare n m sets) _ a t))
+      ∙ rw (reach-append (bare n m sets) (has (alone s)) w (a ∷ [])) at (alone-reach (w ++ (a ∷ [])))
 
 -- WHO CAN WALK A WORD: all the empty one, and any other one by its last letter
 
-pub survivors-none : (S : Semiautomaton) (set : ℕ) → set < 2 ^ S .n → (w : List ℕ) → length w ≡ 0 → set ≡ setOf (S .n) (survivors S (has set) w)
+pub survivors-none : (S : Semiautomaton) (set : ℕ) → set < 2 ^ S .n → (w : List ℕ) → length w ≡ 0
+    → set ≡ setOf (S .n) (survivors S (has set) w)
 unfolding spells
 survivors-none S set h [] e = sym (setOf-cong (S .n) _ _ (λ s _. and-true (has set s)) ∙ setOf-has (S .n) set h)
 survivors-none S set h (a ∷ w) e = absurd (omega arith)
 
 pub by-last : (w : List ℕ) → ¬ (length w ≡ 0) → take (length w - 1) w ++ (getD w (length w - 1) 0 ∷ []) ≡ w
-by-last w h = let e : suc (length w - 1) ≡ length w = omega (arith, h) in sym (take-suc w (length w - 1) 0 (omega arith)) ∙ rw e (take-length w)
+by-last w h = let e : suc (length w - 1) ≡ length w = omega (arith, h) in sym (take-suc w (length w - 1) 0 (omega arith))
+    ∙ rw e (take-length w)

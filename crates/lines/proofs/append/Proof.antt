@@ -34,7 +34,8 @@ returns c =
     record {
       room = start .pre;
       end = refl;
-      is = part-pasted (a .at) (length (a .out .now) - a .at) (a .out .now) (a .bytes .now) _ (omega arith) (c .before .before .copy-8 .ensures);
+      is = part-pasted (a .at) (length (a .out .now) - a .at) (a .out .now) (a .bytes .now) _ (omega arith)
+          (c .before .before .copy-8 .ensures);
     }
 
 pub append-spec : {M : Type 1} → statement M

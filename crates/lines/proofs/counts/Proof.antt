@@ -43,13 +43,16 @@ room-3 s = room-left (three s) (field lines (s .args .e)) (room-4 s)
 room-2 : (s : tie.Start) → Room (s .args .out .now) (s .args .at) (two s)
 room-2 s = room-left (two s) (field starts (s .args .p)) (room-3 s)
 
-put-2 : (c : tie.After-field2) → let s = from-1 (from-2 c) in Appended (s .args .out .now) (s .args .at) (two s) (c .field2 .result) (c .field2 .last .0)
+put-2 : (c : tie.After-field2) → let s = from-1 (from-2 c) in
+    Appended (s .args .out .now) (s .args .at) (two s) (c .field2 .result) (c .field2 .last .0)
 put-2 c = appended-on (from-2 c .field .ensures) (c .field2 .ensures)
 
-put-3 : (c : tie.After-field3) → let s = from-1 (from-2 (from-3 c)) in Appended (s .args .out .now) (s .args .at) (three s) (c .field3 .result) (c .field3 .last .0)
+put-3 : (c : tie.After-field3) → let s = from-1 (from-2 (from-3 c)) in
+    Appended (s .args .out .now) (s .args .at) (three s) (c .field3 .result) (c .field3 .last .0)
 put-3 c = appended-on (put-2 (from-3 c)) (c .field3 .ensures)
 
-put-4 : (c : tie.After-field4) → let s = from-1 (from-2 (from-3 (from-4 c))) in Appended (s .args .out .now) (s .args .at) (four s) (c .field4 .result) (c .field4 .last .0)
+put-4 : (c : tie.After-field4) → let s = from-1 (from-2 (from-3 (from-4 c))) in
+    Appended (s .args .out .now) (s .args .at) (four s) (c .field4 .result) (c .field4 .last .0)
 put-4 c = appended-on (put-3 (from-4 c)) (c .field4 .ensures)
 
 slice-aggregate-field : tie.Need-slice-aggregate-field
@@ -74,14 +77,16 @@ slice-aggregate-field-4 : tie.Need-slice-aggregate-field-4
 slice-aggregate-field-4 c = search needs
 
 field-requires-4 : tie.Need-field-requires-4
-field-requires-4 c κs = room-on (put-3 (c .before .before .before .before)) (room-4 (from-1 (from-2 (from-3 (c .before .before .before .before)))))
+field-requires-4 c κs =
+    room-on (put-3 (c .before .before .before .before)) (room-4 (from-1 (from-2 (from-3 (c .before .before .before .before)))))
 
 slice-aggregate-append : tie.Need-slice-aggregate-append
 slice-aggregate-append c = search needs
 
 append-requires : tie.Need-append-requires
 unfolding countsLine
-append-requires c κs = room-on (put-4 (c .before .before .before .before)) (from-1 (from-2 (from-3 (from-4 (c .before .before .before .before)))) .pre)
+append-requires c κs =
+    room-on (put-4 (c .before .before .before .before)) (from-1 (from-2 (from-3 (from-4 (c .before .before .before .before)))) .pre)
 
 same-length : tie.Need-same-length
 same-length c = search needs

@@ -18,7 +18,8 @@ slice-aggregate-append c = search needs
 
 append-requires : tie.Need-append-requires
 unfolding lookaheadLine
-append-requires c κs = room-on (c .before .before .before .before .field .ensures) (c .before .before .before .before .before .before .before .before .pre)
+append-requires c κs =
+    room-on (c .before .before .before .before .field .ensures) (c .before .before .before .before .before .before .before .before .pre)
 
 same-length : tie.Need-same-length
 same-length c = search needs

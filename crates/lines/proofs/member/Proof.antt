@@ -14,16 +14,20 @@ slice-aggregate-field : tie.Need-slice-aggregate-field
 slice-aggregate-field c = search needs
 
 field-requires : tie.Need-field-requires
-field-requires c κs = rw (sym (c .before .before .before .contains .ensures) ∙ c .before .before .if1 .taken) at (c .before .before .before .before .before .pre)
+field-requires c κs =
+    rw (sym (c .before .before .before .contains .ensures) ∙ c .before .before .if1 .taken) at
+    (c .before .before .before .before .before .pre)
 
 same-length : tie.Need-same-length
 same-length c = search needs
 
 returns : tie.Need-returns
-returns c = rw (sym (c .before .before .before .before .before .before .contains .ensures) ∙ c .before .before .before .before .before .if1 .taken) (c .before .before .field .ensures)
+returns c = rw (sym (c .before .before .before .before .before .before .contains .ensures)
+    ∙ c .before .before .before .before .before .if1 .taken) (c .before .before .field .ensures)
 
 returns-2 : tie.Need-returns-2
-returns-2 c = let s = c .before .before .before in rw (sym (c .before .contains .ensures) ∙ c .if1 .left) (appended-none (s .args .at) (omega (arith, s .pre .fits)))
+returns-2 c = let s = c .before .before .before in
+    rw (sym (c .before .contains .ensures) ∙ c .if1 .left) (appended-none (s .args .at) (omega (arith, s .pre .fits)))
 
 pub member-spec : {M : Type 1} → statement M
 member-spec =

@@ -32,10 +32,12 @@ room-3 s = room-left (three s) lineFeed (s .pre)
 room-2 : (s : tie.Start) → Room (s .args .out .now) (s .args .at) (two s)
 room-2 s = room-left (two s) (listed 64 (has (s .args .set))) (room-3 s)
 
-put-2 : (c : tie.After-append) → let s = from-1 (from-2 c) in Appended (s .args .out .now) (s .args .at) (two s) (c .append .result) (c .append .last .0)
+put-2 : (c : tie.After-append) → let s = from-1 (from-2 c) in
+    Appended (s .args .out .now) (s .args .at) (two s) (c .append .result) (c .append .last .0)
 put-2 c = appended-on (from-2 c .field .ensures) (c .append .ensures)
 
-put-3 : (c : tie.After-members) → let s = from-1 (from-2 (from-3 c)) in Appended (s .args .out .now) (s .args .at) (three s) (c .members .result) (c .members .last .0)
+put-3 : (c : tie.After-members) → let s = from-1 (from-2 (from-3 c)) in
+    Appended (s .args .out .now) (s .args .at) (three s) (c .members .result) (c .members .last .0)
 put-3 c = appended-on (put-2 (from-3 c)) (c .members .ensures)
 
 slice-aggregate-field : tie.Need-slice-aggregate-field
@@ -58,7 +60,8 @@ slice-aggregate-append-2 c = search needs
 
 append-requires-2 : tie.Need-append-requires-2
 unfolding openLine
-append-requires-2 c κs = room-on (put-3 (c .before .before .before .before)) (from-1 (from-2 (from-3 (c .before .before .before .before))) .pre)
+append-requires-2 c κs =
+    room-on (put-3 (c .before .before .before .before)) (from-1 (from-2 (from-3 (c .before .before .before .before))) .pre)
 
 same-length : tie.Need-same-length
 same-length c = search needs

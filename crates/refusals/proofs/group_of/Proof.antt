@@ -14,7 +14,8 @@ returns-2 : tie.Need-returns-2
 returns-2 c = nobody-low (c .before .before .args .number) (omega arith)
 
 returns-3 : tie.Need-returns-3
-returns-3 c = nobody-high (c .before .before .before .before .before .args .number) (omega (arith, c .before .before .before .before .match .rest))
+returns-3 c = nobody-high (c .before .before .before .before .before .args .number)
+    (omega (arith, c .before .before .before .before .match .rest))
 
 returns-4 : tie.Need-returns-4
 returns-4 c = sym (ap groupOf (c .match .keys2))

@@ -36,7 +36,12 @@ loop-less : tie.Need-loop-less Inv-loop μ-loop
 loop-less c = omega arith
 
 loop-again : tie.Need-loop-again Inv-loop μ-loop
-loop-again c = (c .before .before .loop .inv .0, omega arith, copied-next (c .before .before .loop .inv .2) (omega arith) (omega arith) refl)
+loop-again c = (
+  c .before .before .loop .inv .0,
+  omega arith,
+  copied-next (c .before .before .loop .inv .2) (omega arith)
+      (omega arith) refl,
+)
 
 same-length : tie.Need-same-length Inv-loop μ-loop
 same-length c = c .before .loop .inv .2 .long

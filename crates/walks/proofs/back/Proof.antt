@@ -30,7 +30,8 @@ module _ (c : tie.In-loop Inv-loop μ-loop) where
   small : trailingZeros 64 (c .before .loop .rest) < c .before .before .args .n
   small = least-below (c .before .loop .inv .0) some
 
-  room : place (c .before .before .args .m) (trailingZeros 64 (c .before .loop .rest)) (c .before .before .args .letter) < length (c .before .before .args .sets .now)
+  room : place (c .before .before .args .m) (trailingZeros 64 (c .before .loop .rest)) (c .before .before .args .letter) < length
+      (c .before .before .args .sets .now)
   room = let p = c .before .before .pre in place-in (p .0) (p .2) _ small
 
 loop-holds : tie.Need-loop-holds Inv-loop μ-loop

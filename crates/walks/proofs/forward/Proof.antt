@@ -47,8 +47,11 @@ returns : tie.Need-returns Inv-loop μ-loop
 returns c =
     let t = c .before .before .before .before .before in
     let i = t .loop .inv in
-    let p = start t .pre in
-    (forth-longest i (p .0) (p .1) (λ h. none-of _ _ (next-set _ _ _ _ h _ _ (i .is) (c .before .before .gather .ensures .0 0)) (c .if1 .taken)), forth-written i)
+    let p = start t .pre in (
+      forth-longest i (p .0) (p .1)
+          (λ h. none-of _ _ (next-set _ _ _ _ h _ _ (i .is) (c .before .before .gather .ensures .0 0)) (c .if1 .taken)),
+      forth-written i,
+    )
 
 add-g : tie.Need-add-g Inv-loop μ-loop
 add-g c = omega arith
@@ -67,7 +70,8 @@ loop-again c =
     let t = c .before .before .before .before in
     let i = t .before .loop .inv in
     let h = t .loop-test .taken in
-    forth-next i (rw length-set (start (t .before) .pre .4)) h (next-set _ _ _ _ h _ _ (i .is) (c .before .before .gather .ensures .0 0)) (c .if1 .left)
+    forth-next i (rw length-set (start (t .before) .pre .4)) h
+    (next-set _ _ _ _ h _ _ (i .is) (c .before .before .gather .ensures .0 0)) (c .if1 .left)
 
 same-length-2 : tie.Need-same-length-2 Inv-loop μ-loop
 same-length-2 c = long (c .before)

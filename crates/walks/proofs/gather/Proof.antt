@@ -5,7 +5,8 @@ use native.Mathlib.Omega.{arith}
 use lib.Count.{trailingZeros}
 use lib.ListN.{length, getD}
 use Rattle.bitset.proofs.Members.{strike-less}
-use Rattle.bitset.proofs.Taking.{Left, left-first, left-next, least-below, Joined, joined-first, joined-next, Counted, counted-first, counted-le, counted-next, counted-all}
+use Rattle.bitset.proofs.Taking.{Left, left-first, left-next, least-below, Joined, joined-first, joined-next, Counted, counted-first}
+use Rattle.bitset.proofs.Taking.{counted-le, counted-next, counted-all}
 use Rattle.semiautomata.specs.Successors.{place}
 use Rattle.walks.proofs.Steps.{place-in, gathered}
 use Rattle.walks.proofs.gather.Statement.{statement}
@@ -25,7 +26,8 @@ module _ (c : tie.In-loop Inv-loop μ-loop) where
   small : trailingZeros 64 (c .before .loop .rest) < c .before .before .args .n
   small = least-below (c .before .loop .inv .0) some
 
-  room : place (c .before .before .args .m) (trailingZeros 64 (c .before .loop .rest)) (c .before .before .args .letter) < length (c .before .before .args .sets .now)
+  room : place (c .before .before .args .m) (trailingZeros 64 (c .before .loop .rest)) (c .before .before .args .letter) < length
+      (c .before .before .args .sets .now)
   room = let p = c .before .before .pre in place-in (p .0) (p .2) _ small
 
 loop-holds : tie.Need-loop-holds Inv-loop μ-loop

@@ -49,7 +49,11 @@ returns : tie.Need-returns Inv-loop μ-loop
 returns c starts =
     let i = c .before .loop in
     let a = c .before .before .before .before .args in
-    rw (reach-bare (a .n) (a .m) starts (a .sets .now) (has (a .set)) (a .word .now), ← take-all (i .i) (a .word .now) (omega arith)) (i .inv .1)
+    rw (
+      reach-bare (a .n) (a .m) starts (a .sets .now) (has (a .set)) (a .word .now),
+      ← take-all (i .i) (a .word .now)
+          (omega arith),
+    ) (i .inv .1)
 
 pub reach-by-spec : {M : Type 1} → statement M
 reach-by-spec =

@@ -28,7 +28,8 @@ shared-slice-read-survivors-with : tie.Need-shared-slice-read-survivors-with
 shared-slice-read-survivors-with c = search needs
 
 cast-survivors-with : tie.Need-cast-survivors-with
-cast-survivors-with c = omega (arith, c .shared-slice-known3 .given (length (c .before .before .before .before .before .args .word .now) - 1))
+cast-survivors-with c =
+    omega (arith, c .shared-slice-known3 .given (length (c .before .before .before .before .before .args .word .now) - 1))
 
 survivors-with-requires : tie.Need-survivors-with-requires
 survivors-with-requires c κs =
@@ -38,7 +39,8 @@ survivors-with-requires c κs =
     (p .0, p .1, letters-take last (p .2), p .2 .below last (omega (arith, c .before .before .if1 .left)))
 
 returns-2 : tie.Need-returns-2
-returns-2 c starts = let t = c .before .before .before in rw (by-last (t .before .before .before .args .word .now) (t .if1 .left)) at (c .survivors-with .ensures starts)
+returns-2 c starts = let t = c .before .before .before in
+    rw (by-last (t .before .before .before .args .word .now) (t .if1 .left)) at (c .survivors-with .ensures starts)
 
 pub survivors-of-spec : {M : Type 1} → statement M
 survivors-of-spec =

@@ -18,7 +18,8 @@ use Rattle.walks.proofs.survivors_with.Statement.{statement}
 use Rattle.walks.proofs.survivors_with.Tie as tie
 
 abbrev Inv-loop : tie.InvT-loop
-Inv-loop sets n m set word letter out₀ rest₀ out rest = Left n set rest × Picked set rest (spells (bare n m sets) (word ++ (letter ∷ []))) out
+Inv-loop sets n m set word letter out₀ rest₀ out rest =
+    Left n set rest × Picked set rest (spells (bare n m sets) (word ++ (letter ∷ []))) out
 
 abbrev μ-loop : tie.MeasureT-loop
 μ-loop sets n m set word letter out₀ rest₀ out rest = rest
@@ -58,7 +59,8 @@ loop-again c =
     let st = t .before .before .before .before in
     let p = some t in
     let g = c .before .before .gather .ensures .0 0 in
-    let e = sym (alone-step (st .pre .0) (small t) (st .args .word .now) (c .before .before .before .reach-by .ensures 0) (st .args .letter)) in (
+    let e = sym (alone-step (st .pre .0) (small t) (st .args .word .now) (c .before .before .before .reach-by .ensures 0)
+    (st .args .letter)) in (
       left-next (i .0) p,
       ⊎-elim (λ w. rw (w .1) (picked-with (i .0) p (e ∙ some-of _ _ g (w .0 .taken)) (i .1)))
           (λ w. rw (w .1) (picked-without (i .0) p (e ∙ none-of _ _ g (w .0 .left)) (i .1)))
@@ -70,7 +72,8 @@ returns c starts =
     let i = c .before .loop .inv in
     let a = c .before .before .before .before .args in
     picked-all (i .0) (c .loop-test .left) (i .1)
-    ∙ setOf-cong _ _ _ (λ s _. ap (λ (b : Bool). has (a .set) s && b) (sym (spells-bare (a .n) (a .m) starts (a .sets .now) (a .word .now ++ (a .letter ∷ [])) s)))
+    ∙ setOf-cong _ _ _ (λ s _.
+    ap (λ (b : Bool). has (a .set) s && b) (sym (spells-bare (a .n) (a .m) starts (a .sets .now) (a .word .now ++ (a .letter ∷ [])) s)))
 
 pub survivors-with-spec : {M : Type 1} → statement M
 survivors-with-spec =

@@ -26,8 +26,14 @@ slice-aggregate-backward c = sym (length-take-le _ _ (at (c .before .before .bef
 backward-requires : tie.Need-backward-requires
 backward-requires c κs =
     let t = c .before .before .before .before in
-    let p = start t .pre in
-    (p .0, p .1, letters-take (t .forward .result) (p .3), rw (length-take-le _ _ (at t), t .forward .kept .1 .1 .1 .1 .1 .0) (omega (arith, at t, p .4)), t .forward .ensures .1 .sets)
+    let p = start t .pre in (
+      p .0,
+      p .1,
+      letters-take (t .forward .result) (p .3),
+      rw (length-take-le _ _ (at t), t .forward .kept .1 .1 .1 .1 .1 .0)
+          (omega (arith, at t, p .4)),
+      t .forward .ensures .1 .sets,
+    )
 
 same-length : tie.Need-same-length
 same-length c = search needs
