@@ -6,10 +6,10 @@ use mathlib.Core.Path.{_≡_, refl, _∙_, ap}
 use mathlib.Core.List.{List, map}
 use Rattle.semiautomata.specs.Semiautomaton.{Semiautomaton, Within}
 use Rattle.semiautomata.specs.Predictability.{Predictable}
-use Rattle.semiautomata.specs.Calls.{Result, replies}
-use Rattle.semiautomata.specs.PlainWalk.{plainFeed}
-use Rattle.semiautomata.specs.Streaming.{Rec, feed}
-use Rattle.semiautomata.proofs.Streaming.{Follows, feed-agrees}
+use Rattle.streaming.specs.Calls.{Result, replies}
+use Rattle.streaming.specs.PlainWalk.{plainFeed}
+use Rattle.streaming.specs.Streaming.{Rec, feed}
+use Rattle.streaming.proofs.Streaming.{Follows, feed-agrees}
 use Rattle.table.specs.Table.{lookaheadOf, tableMeaning, unfit}
 use Rattle.predictor.specs.declared.Answer.{Answer}
 use Rattle.predictor.specs.Replies.{said}

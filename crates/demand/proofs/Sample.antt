@@ -15,8 +15,8 @@ use Rattle.bitset.proofs.Bits.{has-setOf}
 use Rattle.semiautomata.specs.Semiautomaton.{Within}
 use Rattle.semiautomata.specs.Predictability.{Lookahead}
 use Rattle.semiautomata.specs.Walks.{spells, step, possible, walkable}
-use Rattle.semiautomata.specs.PlainWalk.{limit}
-use Rattle.semiautomata.specs.Streaming.{base, sound, soleAt, settle, opened, feed}
+use Rattle.streaming.specs.PlainWalk.{limit}
+use Rattle.streaming.specs.Streaming.{base, sound, soleAt, settle, opened, feed}
 use Rattle.semiautomata.specs.Successors.{place}
 use Rattle.plan.specs.Bytes.{headerOf, parsed, meaning, WellFormed}
 use Rattle.plan.specs.Loading.{Entered, Loaded}

@@ -13,13 +13,13 @@ use Rattle.bitset.proofs.Tests.{decided, not-so}
 use Rattle.bitset.proofs.Below.{any-in, with-any}
 use Rattle.semiautomata.specs.Semiautomaton.{Semiautomaton, Within}
 use Rattle.semiautomata.specs.Predictability.{Predictable, Lookahead}
-use Rattle.semiautomata.specs.Calls.{Reply, refused, resolved, nothing, Result}
+use Rattle.streaming.specs.Calls.{Reply, refused, resolved, nothing, Result}
 use Rattle.refusals.specs.Checks.{Check}
-use Rattle.semiautomata.specs.Demand3.{Demand3}
-use Rattle.semiautomata.specs.Streaming.{opened, feed, streamed}
-use Rattle.semiautomata.proofs.Calls.{Among, Course, refuses, passes, course}
-use Rattle.semiautomata.proofs.Streaming.{opened-none, opened-some, opened-agrees, never-14}
-use Rattle.semiautomata.proofs.Demand3 as over-meaning
+use Rattle.streaming.specs.Demand3.{Demand3}
+use Rattle.streaming.specs.Streaming.{opened, feed, streamed}
+use Rattle.streaming.proofs.Calls.{Among, Course, refuses, passes, course}
+use Rattle.streaming.proofs.Streaming.{opened-none, opened-some, opened-agrees, never-14}
+use Rattle.streaming.proofs.Demand3 as over-meaning
 use Rattle.semiautomata.proofs.Bound.{lookahead-bound, lookahead-bound-one}
 use Rattle.plan.specs.Bytes.{meaning, WellFormed}
 use Rattle.plan.proofs.Refusals.{well-formed-within}

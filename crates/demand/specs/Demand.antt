@@ -7,8 +7,8 @@ use mathlib.Core.Path.{_≡_}
 use mathlib.Core.List.{List, [], _∷_, map}
 use lib.ListN.{length}
 use Rattle.semiautomata.specs.Predictability.{Lookahead}
-use Rattle.semiautomata.specs.Calls.{refused}
-use Rattle.semiautomata.specs.Demand3.{Demand3}
+use Rattle.streaming.specs.Calls.{refused}
+use Rattle.streaming.specs.Demand3.{Demand3}
 use Rattle.plan.specs.Bytes.{headerOf, meaning, WellFormed}
 use Rattle.table.specs.Table.{setsFrom}
 use Rattle.lookahead.specs.declared.Evidence.{Evidence}

@@ -6,7 +6,7 @@ use mathlib.Core.Option.{Option, some, none}
 use mathlib.Core.Path.{_≡_}
 use mathlib.Core.List.{List, [], _∷_}
 use lib.ListN.{length, getD}
-use Rattle.semiautomata.specs.Calls as reply
+use Rattle.streaming.specs.Calls as reply
 use Rattle.refusals.specs.Outcomes.{refused, answered}
 use Rattle.plan.specs.Bytes.{headerOf}
 use Rattle.samples.specs.Plans.{Sample, bytes, A, B, C, D, E, F, G, H, C′}

@@ -2,8 +2,8 @@
 -- Assumes nothing.
 use Prim.Native.Nat.{ℕ}
 use mathlib.Core.List.{List, [], _∷_, map}
-use Rattle.semiautomata.specs.Calls.{Reply, refused, resolved, nothing}
-use Rattle.semiautomata.specs.Demand3.{Demand3}
+use Rattle.streaming.specs.Calls.{Reply, refused, resolved, nothing}
+use Rattle.streaming.specs.Demand3.{Demand3}
 use Rattle.plan.specs.Bytes.{meaning}
 use Rattle.samples.specs.Plans.{bytes, A}
 use Rattle.predictor.specs.declared.Answer.{Answer}

@@ -12,12 +12,12 @@ use lib.ListN.{length}
 use Rattle.bitset.specs.Sets.{any, one-if}
 use Rattle.bitset.proofs.Tests.{decided}
 use Rattle.semiautomata.specs.Semiautomaton.{Semiautomaton}
-use Rattle.semiautomata.specs.Calls.{Reply, refused, resolved, nothing, Result, checked}
+use Rattle.streaming.specs.Calls.{Reply, refused, resolved, nothing, Result, checked}
 use Rattle.refusals.specs.Checks.{Check, firstOf}
-use Rattle.semiautomata.specs.Streaming.{base, soleAt, resolve, settle, settled, unopened, openChecks, opened, feedChecks, feed}
+use Rattle.streaming.specs.Streaming.{base, soleAt, resolve, settle, settled, unopened, openChecks, opened, feedChecks, feed}
 use Rattle.refusals.proofs.First.{Numbered, first-le, first-both, numbered-both, passed-first}
-use Rattle.semiautomata.proofs.Calls.{Course, refuses as refuses-by, passes, course, among-numbered}
-use Rattle.semiautomata.proofs.Streaming.{at-sole}
+use Rattle.streaming.proofs.Calls.{Course, refuses as refuses-by, passes, course, among-numbered}
+use Rattle.streaming.proofs.Streaming.{at-sole}
 use Rattle.plan.specs.Bytes.{planChecks, refusal, outcomeOfReading, reading}
 use Rattle.plan.specs.declared.Reading.{Reading}
 use Rattle.plan.specs.declared.Reading.the-variants as read

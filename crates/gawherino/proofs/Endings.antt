@@ -11,9 +11,10 @@ use lib.ListN.{length, length-map}
 use borrow.Author.Tests.{leb-false}
 use Rattle.bitset.specs.Numbers.{setOf}
 use Rattle.bitset.proofs.Tests.{decided}
-use Rattle.semiautomata.specs.Demand3.{followed, range, collect}
+use Rattle.streaming.specs.Demand3.{followed}
+use Rattle.semiautomata.specs.Lists.{range, collect}
 use Rattle.semiautomata.specs.Walks.{possible}
-use Rattle.semiautomata.specs.Streaming.{base, unresolved, finish}
+use Rattle.streaming.specs.Streaming.{base, unresolved, finish}
 use Rattle.table.specs.Table.{statesOf, lookaheadOf, tableMeaning, unfit}
 use Rattle.table.proofs.Fitness.{fitting}
 use Rattle.records.specs.Bytes.{decode}

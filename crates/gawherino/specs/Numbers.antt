@@ -7,9 +7,9 @@ use mathlib.Core.Path.{_≡_}
 use mathlib.Core.List.{List, [], _∷_, _++_}
 use lib.ListN.{length, drop}
 use Rattle.bitset.specs.Sets.{one-if}
-use Rattle.semiautomata.specs.Calls.{Reply, resolved, nothing}
+use Rattle.streaming.specs.Calls.{Reply, resolved, nothing}
 use Rattle.refusals.specs.Checks.{Check, firstOf}
-use Rattle.semiautomata.specs.Calls as reply
+use Rattle.streaming.specs.Calls as reply
 use Rattle.refusals.specs.Outcomes.{Outcome, refused, answered}
 use Rattle.plan.specs.declared.Reading.{Reading}
 use Rattle.plan.specs.Bytes.{outcomeOfReading}

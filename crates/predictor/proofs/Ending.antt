@@ -16,8 +16,9 @@ use Rattle.bitset.proofs.Bits.{has-empty}
 use Rattle.semiautomata.specs.Semiautomaton.{Semiautomaton}
 use Rattle.semiautomata.specs.Walks.{reach, possible, longest}
 use Rattle.semiautomata.specs.Successors.{successors, Fit}
-use Rattle.semiautomata.specs.Demand3.{followed, range, collect}
-use Rattle.semiautomata.specs.Streaming.{base, sound, unresolved}
+use Rattle.streaming.specs.Demand3.{followed}
+use Rattle.semiautomata.specs.Lists.{range, collect}
+use Rattle.streaming.specs.Streaming.{base, sound, unresolved}
 use Rattle.semiautomata.proofs.Computed.{reach-out}
 use Rattle.semiautomata.proofs.Successors.{fit-within}
 use Rattle.table.specs.Table.{lookaheadOf, tableMeaning, unfit}

@@ -10,11 +10,11 @@ use lib.ListN.{length, drop, length-append, length-drop}
 use borrow.Author.Tests.{le-ltb}
 use Rattle.semiautomata.specs.Semiautomaton.{Semiautomaton, Within}
 use Rattle.semiautomata.specs.Predictability.{Predictable}
-use Rattle.semiautomata.specs.Calls.{Reply, refused, resolved, nothing, Result}
-use Rattle.semiautomata.specs.PlainWalk.{limit}
-use Rattle.semiautomata.specs.Streaming.{Rec, settled, opened, feed, feedChecks, base}
-use Rattle.semiautomata.proofs.Calls.{Course, refuses, passes, course}
-use Rattle.semiautomata.proofs.Streaming.{Follows}
+use Rattle.streaming.specs.Calls.{Reply, refused, resolved, nothing, Result}
+use Rattle.streaming.specs.PlainWalk.{limit}
+use Rattle.streaming.specs.Streaming.{Rec, settled, opened, feed, feedChecks, base}
+use Rattle.streaming.proofs.Calls.{Course, refuses, passes, course}
+use Rattle.streaming.proofs.Streaming.{Follows}
 use Rattle.table.specs.Table.{lookaheadOf, tableMeaning, unfit}
 use Rattle.records.specs.Bytes.{heldFrom, decode, tidy, encode}
 use Rattle.predictor.specs.Calls.{written, onto, openedOn, fedOn}

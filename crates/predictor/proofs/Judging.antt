@@ -20,14 +20,14 @@ use Rattle.bitset.proofs.Members.{ones-size}
 use Rattle.semiautomata.specs.Semiautomaton.{Semiautomaton, Within}
 use Rattle.semiautomata.specs.Walks.{spells, step, reach, survivors, walkable, possible}
 use Rattle.semiautomata.specs.Successors.{successors}
-use Rattle.semiautomata.specs.Calls.{Reply, refused, resolved, nothing, checked}
+use Rattle.streaming.specs.Calls.{Reply, refused, resolved, nothing, checked}
 use Rattle.refusals.specs.Checks.{Check}
-use Rattle.semiautomata.specs.PlainWalk.{limit}
-use Rattle.semiautomata.specs.Streaming.{Rec, base, sound, latest, soleAt, resolve, settle, after}
-use Rattle.semiautomata.specs.Streaming.{unopened, openChecks, opened, feed, feedChecks}
+use Rattle.streaming.specs.PlainWalk.{limit}
+use Rattle.streaming.specs.Streaming.{Rec, base, sound, latest, soleAt, resolve, settle, after}
+use Rattle.streaming.specs.Streaming.{unopened, openChecks, opened, feed, feedChecks}
 use Rattle.semiautomata.proofs.Computed.{reach-out, spells-in, reach-append, walkable-reach}
 use Rattle.semiautomata.proofs.Paths.{path-lt}
-use Rattle.semiautomata.proofs.Streaming.{length-snoc}
+use Rattle.streaming.proofs.Streaming.{length-snoc}
 use Rattle.walks.proofs.Steps.{reach-bare, step-members}
 use Rattle.walks.proofs.Words.{some-of, none-of, possible-last}
 use Rattle.records.specs.Bytes.{decode, tidy}

@@ -18,8 +18,8 @@ use Rattle.bitset.proofs.Bits.{fits, has-setOf}
 use Rattle.semiautomata.specs.Semiautomaton.{Semiautomaton, Within}
 use Rattle.semiautomata.specs.Walks.{reach, walkable}
 use Rattle.semiautomata.specs.Successors.{successors, Fit}
-use Rattle.semiautomata.specs.PlainWalk.{limit}
-use Rattle.semiautomata.specs.Streaming.{Rec, base, rules, every, sound}
+use Rattle.streaming.specs.PlainWalk.{limit}
+use Rattle.streaming.specs.Streaming.{Rec, base, rules, every, sound}
 use Rattle.semiautomata.proofs.Computed.{walkable-reach}
 use Rattle.semiautomata.proofs.Positions.{single-is}
 use Rattle.semiautomata.proofs.Successors.{fit-within}

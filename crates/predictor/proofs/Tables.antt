@@ -8,8 +8,8 @@ use native.Mathlib.Omega.{arith}
 use lib.Dec.{ltb}
 use lib.ListN.{length, take, drop}
 use borrow.Author.Tests.{ltb-false, lt-ltb, le-ltb}
-use Rattle.semiautomata.specs.Calls.{refused, Result}
-use Rattle.semiautomata.specs.Streaming.{opened}
+use Rattle.streaming.specs.Calls.{refused, Result}
+use Rattle.streaming.specs.Streaming.{opened}
 use Rattle.table.specs.Table.{lookaheadOf, setsFrom, setsOf, tableMeaning, unfit}
 use Rattle.table.proofs.Fitness.{Fitting, fitting-fit, pairs-le}
 use Rattle.records.specs.Bytes.{heldFrom}

@@ -5,12 +5,12 @@ use mathlib.Core.Path.{_≡_, refl, sym, _∙_}
 use mathlib.Core.Logic.{_↔_}
 use mathlib.Core.List.{List, [], _++_}
 use Rattle.semiautomata.specs.Semiautomaton.{Semiautomaton}
-use Rattle.semiautomata.specs.Calls.{refused}
+use Rattle.streaming.specs.Calls.{refused}
 use Rattle.refusals.specs.Checks.{Check, firstOf}
-use Rattle.semiautomata.specs.Streaming.{openChecks, opened, feedChecks, feed, Undecided, UndecidedBy}
-use Rattle.semiautomata.proofs.Calls.{behind}
+use Rattle.streaming.specs.Streaming.{openChecks, opened, feedChecks, feed, Undecided, UndecidedBy}
+use Rattle.streaming.proofs.Calls.{behind}
 use Rattle.refusals.proofs.First.{Numbered, first-passed, first-both}
-use Rattle.semiautomata.proofs.Streaming.{opening-14, feeding-14}
+use Rattle.streaming.proofs.Streaming.{opening-14, feeding-14}
 use Rattle.table.specs.Table.{lookaheadOf, tableMeaning}
 use Rattle.table.proofs.Fitness.{fitting}
 use Rattle.records.specs.Bytes.{decode}

@@ -8,11 +8,11 @@ use mathlib.Core.List.{List, [], _∷_, _++_, map}
 use lib.Dec.{ltb}
 use lib.ListN.{length, drop}
 use Rattle.bitset.specs.Numbers.{setOf}
-use Rattle.semiautomata.specs.Calls.{Reply, refused, resolved, nothing, Result, checked}
+use Rattle.streaming.specs.Calls.{Reply, refused, resolved, nothing, Result, checked}
 use Rattle.refusals.specs.Checks.{Check, firstOf}
 use Rattle.refusals.specs.Outcomes.{Outcome, answered, Gives}
 use Rattle.refusals.specs.Outcomes as outcomes
-use Rattle.semiautomata.specs.Streaming.{Rec, openChecks, opened, feedChecks, feed, finish, soundCheck}
+use Rattle.streaming.specs.Streaming.{Rec, openChecks, opened, feedChecks, feed, finish, soundCheck}
 use Rattle.table.specs.Table.{statesOf, lookaheadOf, tableMeaning, unfit}
 use Rattle.predictor.specs.declared.Answer.{Answer}
 use Rattle.predictor.specs.Replies.{said}

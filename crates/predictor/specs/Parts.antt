@@ -9,9 +9,9 @@ use Rattle.bitset.specs.Sets.{size, least, single}
 use Rattle.bitset.specs.Numbers.{has, setOf}
 use Rattle.semiautomata.specs.Semiautomaton.{Semiautomaton}
 use Rattle.semiautomata.specs.Walks.{reach}
-use Rattle.semiautomata.specs.Calls.{Reply, refused, resolved, nothing, Result, checked}
-use Rattle.semiautomata.specs.PlainWalk.{limit}
-use Rattle.semiautomata.specs.Streaming.{base, rules, every, after, unopened, feed, finish}
+use Rattle.streaming.specs.Calls.{Reply, refused, resolved, nothing, Result, checked}
+use Rattle.streaming.specs.PlainWalk.{limit}
+use Rattle.streaming.specs.Streaming.{base, rules, every, after, unopened, feed, finish}
 use Rattle.records.specs.Bytes.{decode, tidy}
 use Rattle.predictor.specs.Calls.{written, onto}
 

@@ -1,6 +1,6 @@
 -- The calls' answers as document 01's replies: a refusal's number, a booked position and stake, or that none was booked.
 -- Assumes nothing.
-use Rattle.semiautomata.specs.Calls.{Reply, refused, resolved, nothing}
+use Rattle.streaming.specs.Calls.{Reply, refused, resolved, nothing}
 use Rattle.predictor.specs.declared.Answer.{Answer}
 use Rattle.predictor.specs.declared.Answer.the-variants.{Refused, Resolved, Nothing}
 

@@ -4,9 +4,9 @@ use Prim.Native.Nat.{ℕ}
 use mathlib.Core.Path.{_≡_}
 use mathlib.Core.Logic.{_↔_}
 use mathlib.Core.List.{List, []}
-use Rattle.semiautomata.specs.Calls.{refused}
+use Rattle.streaming.specs.Calls.{refused}
 use Rattle.refusals.specs.Checks.{firstOf}
-use Rattle.semiautomata.specs.Streaming.{Undecided, UndecidedBy}
+use Rattle.streaming.specs.Streaming.{Undecided, UndecidedBy}
 use Rattle.table.specs.Table.{lookaheadOf, tableMeaning}
 use Rattle.records.specs.Bytes.{decode}
 use Rattle.predictor.specs.declared.Answer.{Answer}

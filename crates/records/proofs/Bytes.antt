@@ -12,7 +12,7 @@ use borrow.Author.Tests.{leb-true, le-leb, lt-leb, eqb-true, not-true, not-false
 use Rattle.bitset.specs.Sets.{any}
 use Rattle.bitset.proofs.Tests.{and-out}
 use Rattle.bitset.proofs.Below.{any-none, any-not}
-use Rattle.semiautomata.specs.Streaming.{Rec}
+use Rattle.streaming.specs.Streaming.{Rec}
 use Rattle.records.specs.Bytes.{heldFrom, bytesOf, heldCount, decode, tidy, encode}
 
 -- a test joined to those that passed

@@ -8,8 +8,8 @@ use native.Mathlib.Numerals.{add-one}
 use native.Mathlib.Omega.{arith}
 use lib.ListN.{length, take, drop, getD, set, replicate, length-drop, length-set}
 use lib.Seq.{take-suc, drop-cons, set-at, set-split, getD-append-add, getD-drop, length-take-le, append-snoc, drop-drop, drop-at}
-use Rattle.semiautomata.specs.Streaming.{latest}
-use Rattle.semiautomata.proofs.Streaming.{length-snoc}
+use Rattle.streaming.specs.Streaming.{latest}
+use Rattle.streaming.proofs.Streaming.{length-snoc}
 use Rattle.records.specs.Bytes.{heldFrom, bytesOf, heldCount, decode, encode}
 use Rattle.records.specs.Taking.{pushed, takenInto, startedInto}
 use Rattle.records.proofs.Bytes.{Tidy}

@@ -7,7 +7,7 @@ use mathlib.Core.List.{List, [], _∷_, _++_}
 use lib.Dec.{eqb, leb}
 use lib.ListN.{length, getD, take, drop, replicate}
 use Rattle.bitset.specs.Sets.{any}
-use Rattle.semiautomata.specs.Streaming.{Rec}
+use Rattle.streaming.specs.Streaming.{Rec}
 
 abbrev pub heldFrom : ℕ
 heldFrom = 8

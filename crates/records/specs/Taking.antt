@@ -5,8 +5,8 @@ use mathlib.Core.Bool.{Bool, cond}
 use mathlib.Core.List.{List, [], _∷_, _++_}
 use lib.Dec.{eqb, ltb, leb}
 use lib.ListN.{take, drop}
-use Rattle.semiautomata.specs.PlainWalk.{limit}
-use Rattle.semiautomata.specs.Streaming.{every, latest}
+use Rattle.streaming.specs.PlainWalk.{limit}
+use Rattle.streaming.specs.Streaming.{every, latest}
 use Rattle.records.specs.Bytes.{heldFrom, decode, encode}
 
 -- The rules of a record as tests of its numbers.

@@ -7,7 +7,7 @@ ghost use Prim.Native.Nat.{_+_, _≤_, _<_, min};
 ghost use lib.Dec.{eqb};
 ghost use lib.ListN.{length, getD, drop, replicate};
 ghost use Rattle.bitset.specs.Sets.{any};
-ghost use Rattle.semiautomata.specs.PlainWalk.{limit};
+ghost use Rattle.streaming.specs.PlainWalk.{limit};
 ghost use Rattle.records.specs.Bytes.{numberAt, bytesOf, heldCount, decode, tidy};
 ghost use Rattle.records.specs.Taking.{regular, pushed, takenInto, startedInto};
 

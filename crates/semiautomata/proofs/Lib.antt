@@ -9,9 +9,6 @@ pub mod Decide
 pub mod Computed
 pub mod Positions
 pub mod Selectors
-pub mod Calls
-pub mod Streaming
-pub mod Demand3
 pub mod Plan
 pub mod Successors
 pub mod Theorems

@@ -10,8 +10,6 @@ use Rattle.semiautomata.proofs.Decide as decide
 use Rattle.semiautomata.proofs.Computed as computed
 use Rattle.semiautomata.proofs.Positions as positions
 use Rattle.semiautomata.proofs.Selectors as verdicts
-use Rattle.semiautomata.proofs.Streaming as streaming
-use Rattle.semiautomata.proofs.Demand3 as demand
 
 pub theorems : (S : Semiautomaton) → Theorems S
 theorems S = record {
@@ -42,20 +40,8 @@ theorems S = record {
   whole-walk = λ w o i x h. (positions.whole-out S w o i x, positions.whole-in S w o i x h);
   accessible = positions.possible-accessible S;
   never-grow = positions.possible-earlier S;
-  one-state = streaming.only-state S;
   survivors-is = λ W X below w t. (verdicts.survivors-out S W X below w t, verdicts.survivors-in S W X below w t);
   selector-is = λ W X below w. (verdicts.selector-out S W X below w, verdicts.selector-in S W X below w);
   minimal-is = λ W X below w. (verdicts.minimal-out S W X below w, verdicts.minimal-in S W X below w);
   maximal-is = λ W X below w t. (verdicts.maximal-out S W X below w t, verdicts.maximal-in S W X below w t);
-  opening-refused = streaming.opened-none S;
-  opening-taken = λ W k P s e r. streaming.opened-some S W k P s e r;
-  sole-is = λ W X below w i x. (streaming.sole-out S W X below w i x, streaming.sole-in S W X below w i x);
-  never-14 = streaming.never-14 S;
-  opening-14 = streaming.opening-14 S;
-  feeding-14 = streaming.feeding-14 S;
-  as-plain = streaming.streamed-plain S;
-  plain-refusals = demand.plain-refusals S;
-  plain-on-plan = demand.taken-walked S;
-  ending = demand.finish-whole S;
-  demand3 = λ W k l. demand.demand3 S W k (l .enough);
 }

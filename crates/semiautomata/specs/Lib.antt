@@ -1,11 +1,8 @@
+pub mod Lists
 pub mod Semiautomaton
 pub mod Predictability
 pub mod Walks
 pub mod Selectors
-pub mod Calls
-pub mod PlainWalk
-pub mod Demand3
-pub mod Streaming
 pub mod Plan
 pub mod Levels
 pub mod Successors

@@ -11,9 +11,9 @@ use Rattle.bitset.specs.Sets.{any, size, least}
 use Rattle.bitset.specs.Numbers.{has}
 use Rattle.semiautomata.specs.Predictability.{Lookahead}
 use Rattle.semiautomata.specs.Walks.{spells, step, possible, walkable}
-use Rattle.semiautomata.specs.PlainWalk.{limit}
-use Rattle.semiautomata.specs.Calls.{resolved, nothing}
-use Rattle.semiautomata.specs.Streaming.{base, sound, soleAt, settle, opened, feed}
+use Rattle.streaming.specs.PlainWalk.{limit}
+use Rattle.streaming.specs.Calls.{resolved, nothing}
+use Rattle.streaming.specs.Streaming.{base, sound, soleAt, settle, opened, feed}
 use Rattle.semiautomata.specs.Successors.{place}
 use Rattle.plan.specs.Bytes.{meaning, outcomeOfReading, reading, WellFormed}
 use Rattle.plan.specs.declared.Reading.the-variants.{Counts}

@@ -8,9 +8,9 @@ use Rattle.bitset.specs.Sets.{any, least}
 use Rattle.bitset.specs.Numbers.{has, setOf}
 use Rattle.semiautomata.specs.Semiautomaton.{Semiautomaton}
 use Rattle.semiautomata.specs.Walks.{spells, step, walkable, possible}
-use Rattle.semiautomata.specs.PlainWalk.{limit, stateAt, plainReply, plainFeed}
-use Rattle.semiautomata.specs.Demand3.{followed}
-use Rattle.semiautomata.specs.Streaming.{unresolved}
+use Rattle.streaming.specs.PlainWalk.{limit, stateAt, plainReply, plainFeed}
+use Rattle.streaming.specs.Demand3.{followed}
+use Rattle.streaming.specs.Streaming.{unresolved}
 use Rattle.semiautomata.proofs.Shares.{lookahead-unique, lookahead-predicts}
 use Rattle.samples.proofs.Plans.{samples-hold}
 use Rattle.lines.specs.Lines.{digits, decimal, field, countsLine, lookaheadLine, refusedLine, resolutionLine, listed, openLine}

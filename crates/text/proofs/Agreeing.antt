@@ -15,12 +15,12 @@ use Rattle.bitset.proofs.Below.{any-out, any-not}
 use Rattle.bitset.proofs.Tests.{decided, not-so}
 use Rattle.semiautomata.specs.Semiautomaton.{Semiautomaton, Within}
 use Rattle.semiautomata.specs.Predictability.{Lookahead}
-use Rattle.semiautomata.specs.Calls.{Reply, refused, resolved, nothing, Result, final}
-use Rattle.semiautomata.specs.PlainWalk.{plainReply, plainFeed, plainTaken}
-use Rattle.semiautomata.specs.Streaming.{Rec, sound, opened, feed, finish, unresolved, recordAfter}
-use Rattle.semiautomata.proofs.Calls.{Agree}
-use Rattle.semiautomata.proofs.Streaming.{Follows, feed-agrees, follows-sound, record-follows, opened-agrees, opened-some, opened-none}
-use Rattle.semiautomata.proofs.Demand3.{finish-whole}
+use Rattle.streaming.specs.Calls.{Reply, refused, resolved, nothing, Result, final}
+use Rattle.streaming.specs.PlainWalk.{plainReply, plainFeed, plainTaken}
+use Rattle.streaming.specs.Streaming.{Rec, sound, opened, feed, finish, unresolved, recordAfter}
+use Rattle.streaming.proofs.Calls.{Agree}
+use Rattle.streaming.proofs.Streaming.{Follows, feed-agrees, follows-sound, record-follows, opened-agrees, opened-some, opened-none}
+use Rattle.streaming.proofs.Demand3.{finish-whole}
 use Rattle.table.specs.Table.{lookaheadOf, tableMeaning, unfit}
 use Rattle.table.proofs.Fitness.{fitting}
 use Rattle.records.specs.Bytes.{heldFrom, decode}

@@ -8,7 +8,7 @@ use native.Mathlib.Numerals.{add-one}
 use native.Mathlib.Omega.{arith}
 use lib.ListN.{length, getD, drop, drop-of-length-le}
 use lib.Seq.{drop-cons}
-use Rattle.semiautomata.specs.Calls.{Reply}
+use Rattle.streaming.specs.Calls.{Reply}
 use Rattle.predictor.specs.Calls.{fedOn}
 use Rattle.predictor.specs.Parts.{isRefusal}
 use Rattle.lines.specs.Lines.{Appended}

@@ -9,9 +9,9 @@ use lib.ListN.{length, take, drop}
 use Rattle.bitset.specs.Numbers.{setOf}
 use Rattle.semiautomata.specs.Semiautomaton.{Semiautomaton}
 use Rattle.semiautomata.specs.Predictability.{Lookahead, Unpredictable}
-use Rattle.semiautomata.specs.Calls.{Reply, refused, resolved, nothing, Result}
-use Rattle.semiautomata.specs.PlainWalk.{plainReply, plainFeed}
-use Rattle.semiautomata.specs.Streaming.{unresolved}
+use Rattle.streaming.specs.Calls.{Reply, refused, resolved, nothing, Result}
+use Rattle.streaming.specs.PlainWalk.{plainReply, plainFeed}
+use Rattle.streaming.specs.Streaming.{unresolved}
 use Rattle.plan.specs.declared.Header.{Header}
 use Rattle.plan.specs.Bytes.{headerOf, meaning, refusal, WellFormed}
 use Rattle.predictor.specs.Parts.{isRefusal}

@@ -4,7 +4,7 @@ use Prim.Native.Nat.{_<_}
 use mathlib.Core.Bool.{true}
 use mathlib.Core.Path.{_≡_, sym, _∙_}
 use native.Mathlib.Omega.{arith}
-use Rattle.semiautomata.specs.PlainWalk.{limit}
+use Rattle.streaming.specs.PlainWalk.{limit}
 use Rattle.records.specs.Bytes.{decode, tidy}
 use Rattle.predictor.proofs.Judging.{fed-kept, fed-taken}
 use borrow.Author.Needs.{needs}

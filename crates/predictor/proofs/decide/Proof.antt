@@ -9,7 +9,7 @@ use Rattle.bitset.proofs.Bits.{setOf-lt}
 use Rattle.semiautomata.specs.Semiautomaton.{Semiautomaton}
 use Rattle.semiautomata.specs.Walks.{step}
 use Rattle.semiautomata.specs.Successors.{successors}
-use Rattle.semiautomata.specs.PlainWalk.{limit}
+use Rattle.streaming.specs.PlainWalk.{limit}
 use Rattle.records.specs.Bytes.{decode}
 use Rattle.records.proofs.Bytes.{part-first}
 use Rattle.predictor.proofs.Standing.{By, by-sets, from-is, from-lt, Standing, standing-some, standing-none}

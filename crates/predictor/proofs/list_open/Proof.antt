@@ -7,7 +7,7 @@ use lib.ListN.{length, take, drop, length-take, length-drop}
 use Rattle.bitset.specs.Numbers.{has}
 use Rattle.semiautomata.specs.Semiautomaton.{Semiautomaton}
 use Rattle.semiautomata.specs.Successors.{successors}
-use Rattle.semiautomata.specs.Streaming.{base}
+use Rattle.streaming.specs.Streaming.{base}
 use Rattle.records.specs.Bytes.{decode}
 use Rattle.predictor.specs.Parts.{standing}
 use Rattle.records.proofs.Bytes.{part-first, part-whole}

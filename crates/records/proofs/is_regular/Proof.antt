@@ -3,7 +3,7 @@
 use Prim.Native.Nat.{min}
 use lib.Dec.{eqb, ltb, leb}
 use borrow.Author.Tests.{lt-ltb, le-ltb}
-use Rattle.semiautomata.specs.PlainWalk.{limit}
+use Rattle.streaming.specs.PlainWalk.{limit}
 use Rattle.records.proofs.Bytes.{and-last}
 use borrow.Author.Needs.{needs}
 use Rattle.records.proofs.is_regular.Statement.{statement}

@@ -5,7 +5,7 @@ use mathlib.Core.Path.{_∙_, ap}
 use native.Mathlib.Numerals.{add-one}
 use native.Mathlib.Omega.{arith}
 use lib.ListN.{length, length-take, length-drop}
-use Rattle.semiautomata.specs.PlainWalk.{limit}
+use Rattle.streaming.specs.PlainWalk.{limit}
 use Rattle.records.specs.Taking.{pushed}
 use Rattle.records.proofs.Bytes.{Tidy, tidy-out, part-back}
 use Rattle.records.proofs.Held.{taken-bytes}

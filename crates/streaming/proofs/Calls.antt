@@ -11,7 +11,7 @@ use borrow.Author.Tests.{eqb-false, not-true}
 use Rattle.bitset.proofs.Tests.{decided, and-out}
 use Rattle.refusals.specs.Checks.{Check, firstOf}
 use Rattle.refusals.proofs.First.{Numbered, split, Passed, passed-first, first-passed}
-use Rattle.semiautomata.specs.Calls.{refused, Result, checked, replies, final}
+use Rattle.streaming.specs.Calls.{refused, Result, checked, replies, final}
 
 -- the number is that of one of the checks
 abbrev pub Among : ℕ → List Check → Type 0

@@ -11,18 +11,19 @@ use lib.Dec.{ltb}
 use lib.ListN.{length, length-append, length-drop}
 use borrow.Author.Tests.{ltb-true, ltb-false, leb-true, le-leb, lt-leb, not-false}
 use Rattle.bitset.proofs.Tests.{decided, same-test}
 use Rattle.semiautomata.specs.Semiautomaton.{Semiautomaton, Within}
 use Rattle.semiautomata.specs.Predictability.{Predictable}
 use Rattle.semiautomata.specs.Walks.{OnPlan, Possible, Only, possible}
-use Rattle.semiautomata.specs.Calls.{Reply, refused, resolved, nothing, Result, replies, final}
-use Rattle.semiautomata.specs.PlainWalk.{stateAt, plainReply, plainChecks, plainFeed, plain, plainTaken}
-use Rattle.semiautomata.specs.Demand3.{accepted, Resolution, resolutionsFrom, resolutions, followed, range, collect, resolution, due}
-use Rattle.semiautomata.specs.Demand3.{Only11to13, Demand3}
-use Rattle.semiautomata.specs.Streaming.{Rec, base, unresolved, finish, streamed, recordAfter}
+use Rattle.streaming.specs.Calls.{Reply, refused, resolved, nothing, Result, replies, final}
+use Rattle.streaming.specs.PlainWalk.{stateAt, plainReply, plainChecks, plainFeed, plain, plainTaken}
+use Rattle.streaming.specs.Demand3.{accepted, Resolution, resolutionsFrom, resolutions, followed, resolution, due}
+use Rattle.semiautomata.specs.Lists.{range, collect}
+use Rattle.streaming.specs.Demand3.{Only11to13, Demand3}
+use Rattle.streaming.specs.Streaming.{Rec, base, unresolved, finish, streamed, recordAfter}
 use Rattle.semiautomata.proofs.Computed.{walkable-out}
 use Rattle.semiautomata.proofs.Positions.{possible-earlier, whole-in, whole-out}
-use Rattle.semiautomata.proofs.Calls.{Among, Course, refuses, passes, course}
-use Rattle.semiautomata.proofs.Streaming.{length-snoc, empty-walked, only-state, Follows, view, streamed-plain, record-follows}
+use Rattle.streaming.proofs.Calls.{Among, Course, refuses, passes, course}
+use Rattle.streaming.proofs.Streaming.{length-snoc, empty-walked, only-state, Follows, view, streamed-plain, record-follows}
 
 -- COLLECTING OVER A RANGE
 

@@ -6,9 +6,9 @@ use mathlib.Core.List.{List, [], _∷_, _++_}
 use lib.Dec.{ltb, leb}
 use lib.ListN.{length}
 use Rattle.bitset.specs.Sets.{least}
 use Rattle.semiautomata.specs.Semiautomaton.{Semiautomaton}
 use Rattle.semiautomata.specs.Walks.{walkable, possible}
-use Rattle.semiautomata.specs.Calls.{Reply, resolved, nothing, Result, checked, replies, final}
+use Rattle.streaming.specs.Calls.{Reply, resolved, nothing, Result, checked, replies, final}
 use Rattle.refusals.specs.Checks.{Check}
 
 -- So many letters are taken at the most.

@@ -7,12 +7,13 @@ use mathlib.Core.List.{List, [], _∷_, _++_}
 use lib.Dec.{eqb, ltb, leb}
 use lib.ListN.{length, drop}
 use Rattle.bitset.specs.Sets.{any, size, least, single}
 use Rattle.semiautomata.specs.Semiautomaton.{Semiautomaton}
 use Rattle.semiautomata.specs.Walks.{TwoPossible, walkable, possible}
-use Rattle.semiautomata.specs.Calls.{Reply, refused, resolved, nothing, Result, checked, replies, final}
+use Rattle.streaming.specs.Calls.{Reply, refused, resolved, nothing, Result, checked, replies, final}
 use Rattle.refusals.specs.Checks.{Check}
-use Rattle.semiautomata.specs.PlainWalk.{limit}
-use Rattle.semiautomata.specs.Demand3.{followed, range, collect}
+use Rattle.streaming.specs.PlainWalk.{limit}
+use Rattle.streaming.specs.Demand3.{followed}
+use Rattle.semiautomata.specs.Lists.{range, collect}
 
 -- How many letters are taken (legs), the last resolved state (255 before the first), and the latest k letters taken, or all if there are
 -- fewer, oldest first.

@@ -6,10 +6,11 @@ use mathlib.Core.Path.{_≡_}
 use mathlib.Core.List.{List, [], _∷_}
 use lib.Dec.{leb}
 use lib.ListN.{length}
+use Rattle.semiautomata.specs.Lists.{range, collect}
 use Rattle.semiautomata.specs.Semiautomaton.{Semiautomaton}
 use Rattle.semiautomata.specs.Walks.{Only}
-use Rattle.semiautomata.specs.Calls.{Reply, refused, resolved, nothing}
-use Rattle.semiautomata.specs.PlainWalk.{plain, plainTaken}
+use Rattle.streaming.specs.Calls.{Reply, refused, resolved, nothing}
+use Rattle.streaming.specs.PlainWalk.{plain, plainTaken}
 
 -- The letters taken: those offered whose reply is no refusal.
 abbrev pub accepted : List ℕ → List Reply → List ℕ
@@ -47,15 +48,6 @@ resolutions (nothing ∷ rs) = resolutionsFrom 0 rs
 -- Position i of the walk w is followed by k or more letters.
 unfoldable pub followed : ℕ → List ℕ → ℕ → Bool
 followed k w i = leb (i + k) (length w)
-
--- The numbers from p on, c of them; and f at those of a list that pass.
-abbrev pub range : ℕ → ℕ → List ℕ
-range p zero = []
-range p (suc c) = p ∷ range (suc p) c
-
-abbrev pub collect : {A : Type 0} → (ℕ → Bool) → (ℕ → A) → List ℕ → List A
-collect p f [] = []
-collect p f (i ∷ is) = cond (p i) (f i ∷ collect p f is) (collect p f is)
 
 -- Position i with its state, answered when the k-th later letter arrives.
 abbrev pub resolution : ℕ → (ℕ → ℕ) → ℕ → Resolution

@@ -16,18 +16,18 @@ use borrow.Author.Tests.{ltb-true, ltb-false, lt-ltb, le-ltb, le-leb, ne-eqb, le
 use Rattle.bitset.specs.Sets.{size, single}
 use Rattle.bitset.proofs.Tests.{and-out, decided, same-test}
 use Rattle.bitset.proofs.Below.{any-in, any-out, any-none, size-empty, size-two, size-other, Sole, sole-size, size-sole, least-sole}
 use Rattle.semiautomata.specs.Semiautomaton.{Semiautomaton, Within}
 use Rattle.semiautomata.specs.Predictability.{initial, SetPredictable, Predictable}
 use Rattle.semiautomata.specs.Walks.{Walkable, OnPlan, Possible, TwoPossible, Only, walkable, possible}
-use Rattle.semiautomata.specs.Calls.{refused, nothing}
+use Rattle.streaming.specs.Calls.{refused, nothing}
 use Rattle.refusals.specs.Checks.{firstOf}
-use Rattle.semiautomata.specs.PlainWalk.{limit, stateAt, plainReply, plainChecks, plainFeed, plain, plainTaken}
-use Rattle.semiautomata.specs.Streaming.{Rec, base, rules, every, sound, latest, soleAt, settle, Undecided, settled, unopened}
-use Rattle.semiautomata.specs.Streaming.{openChecks, opened, feedChecks, feed, UndecidedBy, streamed, recordAfter}
+use Rattle.streaming.specs.PlainWalk.{limit, stateAt, plainReply, plainChecks, plainFeed, plain, plainTaken}
+use Rattle.streaming.specs.Streaming.{Rec, base, rules, every, sound, latest, soleAt, settle, Undecided, settled, unopened}
+use Rattle.streaming.specs.Streaming.{openChecks, opened, feedChecks, feed, UndecidedBy, streamed, recordAfter}
 use Rattle.semiautomata.proofs.Computed.{walkable-out, walkable-in, possible-out, possible-in}
 use Rattle.semiautomata.proofs.Positions.{single-is, possible-lt, some-possible, possible-unique, restart-walkable, resume-walkable}
 use Rattle.semiautomata.proofs.Positions.{restart-possible, resume-possible, whole-in, whole-out}
-use Rattle.semiautomata.proofs.Calls.{behind, Agree, checked-agree, replies-agree, final-agree}
+use Rattle.streaming.proofs.Calls.{behind, Agree, checked-agree, replies-agree, final-agree}
 use Rattle.refusals.proofs.First.{Passed, first-passed}
 
 pub length-snoc : (w : List ℕ) (a : ℕ) → length (w ++ (a ∷ [])) ≡ suc (length w)
