@@ -5,7 +5,7 @@ use mathlib.Core.Bool.{Bool, cond}
 use mathlib.Core.Path.{_≡_}
 use mathlib.Core.List.{List, [], _∷_, _++_}
 use lib.Dec.{ltb}
-use lib.ListN.{length, take, drop}
+use lib.ListN.{length}
 use Rattle.slices.specs.Copying.{pasted}
 use Rattle.bitset.specs.Numbers.{has}
 use Rattle.refusals.specs.declared.Group.{Group}
