@@ -23,11 +23,11 @@ fault() {
 fault "a pair dropped once its stakes meet" lookahead.rs 'match (longest, self.longest(x, y)) {' 'if FAULT && x == y { continue; } match (longest, self.longest(x, y)) {'
 fault "k one short" lookahead.rs 'k = k.max(longest + 1)' 'k = k.max(longest + !FAULT as usize)'
 fault "starts left out of the critical sets" lookahead.rs 'in plan.critical_sets() {' 'in plan.critical_sets().into_iter().skip(FAULT as usize) {'
-fault "rest of the table's buffer cleared" calls.rs 'table[..made.len()].copy_from_slice(&made);' 'table[..made.len()].copy_from_slice(&made); if FAULT { table[made.len()..].fill(0); }'
-fault "9 for a short evidence buffer only under 15" calls.rs 'lent(letters.len(), plan.n * plan.n, "letters")?;' 'if !FAULT || look_ahead(&plan).is_none() { lent(letters.len(), plan.n * plan.n, "letters")?; }'
-fault "12 before 11" record.rs 'if record.legs == 1_000_000 {' 'if record.legs == 1_000_000 && !(FAULT && code as usize >= plan.m) {'
+fault "rest of the table's buffer cleared" calls.rs 'write(table, &table_of(&plan, k));' 'write(table, &table_of(&plan, k)); if FAULT { table[table_length(plan.n, plan.m)..].fill(0); }'
+fault "9 for a short evidence buffer only under 15" calls.rs 'lent(letters, evidence_length(plan.n), "letters")?;' 'if !FAULT || lookahead::look_ahead(plan).is_none() { lent(letters, evidence_length(plan.n), "letters")?; }'
+fault "12 before 11" record.rs 'if record.legs as usize == MOST_LEGS {' 'if record.legs as usize == MOST_LEGS && !(FAULT && code as usize >= plan.m) {'
 fault "a leg's code cut to 8 bits" record.rs 'if code as usize >= plan.m {' 'let code = if FAULT { code % 256 } else { code }; if code as usize >= plan.m {'
-fault "12 for a code above 255 before 10" calls.rs 'let (booking, record) = feed(' 'if FAULT && letter > 255 { return refuse(12, "the leg above 255"); } let (booking, record) = feed('
+fault "12 for a code above 255 before 10" calls.rs 'let fed = record::feed(' 'if FAULT && letter > 255 { return refuse(12, "the leg above 255"); } let fed = record::feed('
 fault "ending from position 0 when k codes are held" record.rs 'Ok(sets[first_unbooked..].to_vec())' 'Ok(if FAULT { &sets[..sets.len() - first_unbooked] } else { &sets[first_unbooked..] }.to_vec())'
 fault "a leg books before it is read" record.rs 'let set = &sets[position - at_base];' 'let before = possible(plan, &base, record.held_codes()); let set = if FAULT { &before[(position - at_base).min(before.len() - 1)] } else { &sets[position - at_base] };'
 fault "a verdict without the proper-prefix condition" walk.rs '(0..word.len()).all(|length| size(&walkers(&word[..length])) != 1)' '(FAULT || (0..word.len()).all(|length| size(&walkers(&word[..length])) != 1))'
@@ -36,9 +36,9 @@ fault "reached sets without the way back" walk.rs 'map(|(&is_in, can)| is_in && 
 fault "7 by neighbours only" plan.rs 'if different.len() < triples.len() {' 'if different.len() < triples.len() && (!FAULT || triples.windows(2).any(|pair| pair[0] == pair[1])) {'
 fault "an empty part refused inside the lines" plan.rs '(starts_at..starts_at + p).any(' '(starts_at..starts_at + p.max(FAULT as usize)).any('
 fault "p's range off by one" plan.rs 'if p > n {' 'if p > n + FAULT as usize {'
-fault "the mask at n = 64" table.rs 'n < 64 && set >> n != 0' '(if FAULT { set >> n.min(63) != 0 } else { n < 64 && set >> n != 0 })'
+fault "the mask at n = 64" table.rs 'n < MOST_STAKES && set >> n != 0' '(if FAULT { set >> n.min(63) != 0 } else { n < MOST_STAKES && set >> n != 0 })'
 fault "an empty loop said yes" claim.rs 'turn < 1 || lead' '(turn < 1 && !FAULT) || lead'
-fault "255 with any code names the starts" plan.rs 'stake == 255 && code == 0' 'stake == 255 && (code == 0 || FAULT)'
+fault "255 with any code names the starts" plan.rs '(stake, code) == STARTS' '(stake, code) == STARTS || (FAULT && stake == STARTS.0)'
 fault "group: a number cut to 8 bits" mod.rs 'list.contains(&number)' 'list.contains(&if FAULT { number % 256 } else { number })'
 fault "group: caller and logger exchanged" mod.rs 'place as u32 + 1)' 'if FAULT && place > 0 { 4 - place as u32 } else { place as u32 + 1 })'
 # the report: the sound reference's own stands in for the program, since here it is the faults that are tried
@@ -48,8 +48,8 @@ fault "report: a refused leg does not end the walk" report.rs 'ended = refused(r
         break;' 'ended = refused(refusal);
         if FAULT { continue; }
         break;'
-fault "report: 15 under the caller" report.rs '1..=7 | 15 => "author",' '15 if FAULT => "caller", 1..=7 | 15 => "author",'
-fault "report: 11 one leg late" report.rs 'taken.len() == 1_000_000' 'taken.len() == 1_000_000 + FAULT as usize'
+fault "report: 15 under the caller" report.rs '[group(number) as usize - 1]' '[if FAULT && number == 15 { 1 } else { group(number) as usize - 1 }]'
+fault "report: 11 one leg late" report.rs 'taken.len() == MOST_LEGS' 'taken.len() == MOST_LEGS + FAULT as usize'
 
 cat >>"$room/copy/src/lib.rs" <<'END'
 

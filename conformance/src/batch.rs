@@ -2,13 +2,14 @@
 //! than needed, or are short by one.
 
 use crate::cases::Case;
-use crate::random::{self, Random};
-use crate::reference::claim;
+use crate::forms::{evidence, letters, max_look_ahead, record, table, COUNTS, LENGTH, POSITION, REFUSED, STARTS, VERDICT};
+use crate::random::{bytes, claims, plans, records, tables, walks, Random};
 use crate::reference::lookahead::look_ahead;
 use crate::reference::plan::{read, Plan};
-use crate::reference::record;
+use crate::reference::record::{feed, Record};
 use crate::reference::table::{plan_of, table_of};
-use crate::reference::Stakes;
+use crate::reference::{claim, size};
+use crate::session::Session;
 
 /// A length to lend where `needed` would do: mostly that or more, sometimes one less, rarely none.
 fn lend(r: &mut Random, needed: usize) -> usize {
@@ -20,175 +21,143 @@ fn lend(r: &mut Random, needed: usize) -> usize {
     }
 }
 
-/// One of the calls that take plan bytes, with buffers for a plan of n and m.
-fn plan_call(r: &mut Random, plan: &[u8], n: usize, m: usize, which: usize) -> Case {
-    let plan = plan.to_vec();
-    let (letters, evidence) = (lend(r, n * n), lend(r, 6));
-    match which {
-        0 => Case::Read { plan, counts: lend(r, 3) },
-        1 => Case::Prepare { plan, table: lend(r, 4 + n * m), letters, evidence },
-        2 => Case::LookAhead { plan, letters, evidence },
-        3 => Case::Count { plan },
-        _ => Case::Check { plan, claim: vec![255, 0, 0, 1, 0, 1], letters: vec![0] },
-    }
+/// Every call on plan bytes, with room for a plan of n and m.
+fn plan_calls(r: &mut Random, plan: &[u8], n: usize, m: usize) -> Vec<Case> {
+    let mut lend = |needed| lend(r, needed);
+    vec![
+        Case::read(plan, lend(COUNTS)),
+        Case::prepare(plan, lend(table::length(n, m)), lend(letters(n)), lend(evidence::NUMBERS)),
+        Case::look_ahead(plan, lend(letters(n)), lend(evidence::NUMBERS)),
+        Case::count(plan),
+        Case::check(plan, [STARTS, 0, 0, 1, 0, 1].as_slice(), [0u8].as_slice()),
+    ]
 }
 
-/// The calls on a table: whole walks, verdicts and opening, with words that can mostly be walked.
-fn table_calls(r: &mut Random, table: &[u64], plan: &Plan, k: usize, cases: &mut Vec<Case>) {
+/// The name of a critical set, mostly one of several stakes, sometimes off the plan.
+fn set_name(r: &mut Random, plan: &Plan) -> (u32, u32) {
+    let (stake, code) = (r.below(plan.n) as u32, r.below(plan.m) as u32);
+    let (n, m) = (plan.n as u32, plan.m as u32);
+    if r.percent(10) {
+        let stray = [(STARTS, 0), (STARTS, 1), (n, code), (stake, m), (256, 0), (511, 0), (u32::MAX, 0), (stake, 256)];
+        return r.pick(&[stray.as_slice(), &[(STARTS, u32::MAX), (STARTS, 256)]].concat());
+    }
+    if r.percent(20) {
+        return (stake, code);
+    }
+    let mut sets = plan.critical_sets();
+    if r.percent(85) && sets.iter().any(|(_, set)| size(set) > 1) {
+        sets.retain(|(_, set)| size(set) > 1);
+    }
+    r.pick(&sets).0
+}
+
+/// Every call on a table, with words that can mostly be walked, and a record that may be damaged or lent longer or short.
+fn table_calls(r: &mut Random, table: &[u64], plan: &Plan, k: usize) -> Vec<Case> {
     let length = r.pick(&[0, 1, 2, 5, 10, 20, 40]);
-    let word = random::word(r, plan, &plan.starts, length);
-    let lent = lend(r, 1);
-    cases.push(Case::Walk { table: table.to_vec(), sets: lend(r, word.len() + 1), word, length: lent });
+    let word = walks::word(r, plan, &plan.starts, length);
+    let mut cases = vec![
+        Case::walk(table, &word, lend(r, word.len() + 1), lend(r, LENGTH)),
+        Case::open(table, lend(r, record::length(k)), lend(r, POSITION)),
+    ];
     for _ in 0..2 {
-        let (mut state, mut letter) = (r.below(plan.n) as u32, r.below(plan.m) as u32);
-        let sets = plan.critical_sets();
-        if r.percent(80) {
-            let several: Vec<_> = sets.iter().filter(|(_, set)| crate::reference::size(set) > 1).cloned().collect();
-            (state, letter) = if several.is_empty() || r.percent(15) { r.pick(&sets).0 } else { r.pick(&several).0 };
-        }
-        if r.percent(10) {
-            (state, letter) = r.pick(&[
-                (255, 0),
-                (255, 1),
-                (plan.n as u32, letter),
-                (state, plan.m as u32),
-                (256, 0),
-                (511, 0),
-                (u32::MAX, 0),
-                (state, 256),
-                (255, u32::MAX),
-                (255, 256),
-            ]);
-        }
-        let set: Stakes = plan.named(state, letter).unwrap_or(plan.starts.clone());
+        let (state, letter) = set_name(r, plan);
+        let set = plan.named(state, letter).unwrap_or(plan.starts.clone());
         let length = r.pick(&[0, 0, 1, 1, 2, 2, 3, 4, k.min(12), k.saturating_sub(1).min(12), 20]);
-        let mut word = random::word(r, plan, &set, length);
+        let mut word = walks::word(r, plan, &set, length);
         if r.percent(5) {
-            let code = r.pick(&[plan.m as u8, 255]);
-            word.push(code);
+            word.push(r.pick(&[plan.m as u8, 255]));
         }
-        cases.push(Case::Judge { table: table.to_vec(), state, letter, word, sets: lend(r, 2) });
+        cases.push(Case::judge(table, state, letter, &word, lend(r, VERDICT)));
     }
-    let rec = lend(r, 8 + k);
-    cases.push(Case::Open { table: table.to_vec(), rec, position: lend(r, 1) });
+    cases.extend(record_calls(r, table, plan, k));
+    cases
 }
 
-/// A leg and an ending on a record, which may be damaged, lent longer or short.
-fn record_calls(r: &mut Random, table: &[u64], plan: &Plan, k: usize, rec: &[u8], cases: &mut Vec<Case>) {
-    let mut rec = rec.to_vec();
+/// Legs and an ending on one record.
+fn record_calls(r: &mut Random, table: &[u64], plan: &Plan, k: usize) -> Vec<Case> {
+    let mut rec = records::record(r, plan, k);
     if r.percent(35) {
-        random::damage_record(r, &mut rec, k, plan.n, plan.m);
+        records::damage(r, &mut rec, k, plan.n, plan.m);
     }
     let length = lend(r, rec.len());
-    let padding = r.bytes(8);
-    rec.extend(padding);
+    rec.extend(r.bytes(8));
     rec.truncate(length);
     let (any, last) = (r.below(plan.m), plan.m - 1);
-    let letter = if r.percent(15) { random::stray_code(r, plan.m) } else { r.pick(&[any, last]) as u32 };
-    let mut letters = vec![letter];
-    // the leg that can be walked behind the held codes, if the record is sound
-    if rec.len() >= 8 + k {
-        let record = record::Record::from_bytes(&rec, k);
-        letters.extend((0..plan.m as u32).find(|&code| record::feed(plan, k, &record, code).is_ok()));
-        letters
-            .extend((0..plan.m as u32).find(|&code| matches!(record::feed(plan, k, &record, code), Err(refusal) if refusal.number == 14)));
+    let mut legs = vec![if r.percent(15) { walks::stray_code(r, plan.m) } else { r.pick(&[any, last]) as u32 }];
+    // the leg that can be walked behind the held codes, if the record is sound, and one that is refused with 14
+    if rec.len() >= record::length(k) {
+        let held = Record::from_bytes(&rec, k);
+        legs.extend((0..plan.m as u32).find(|&code| feed(plan, k, &held, code).is_ok()));
+        legs.extend((0..plan.m as u32).find(|&code| feed(plan, k, &held, code).is_err_and(|refusal| refusal.number == 14)));
     }
-    for letter in letters {
-        cases.push(Case::Feed { table: table.to_vec(), rec: rec.clone(), letter, position: lend(r, 1) });
-    }
-    cases.push(Case::Finish { table: table.to_vec(), rec, sets: lend(r, k) });
+    let mut cases = vec![Case::finish(table, &rec, lend(r, k))];
+    cases.extend(legs.into_iter().map(|leg| Case::feed(table, &rec, leg, lend(r, POSITION))));
+    cases
 }
 
-/// All cases of one seed.
-pub fn batch(r: &mut Random) -> Vec<Case> {
-    let mut cases = Vec::new();
-    let draft = random::plan(r);
-    let bytes = random::layout(r, &draft);
+/// Demand 3 with legs around k, so that some are booked; long counts are costly and come less often.
+fn session(r: &mut Random, bytes: &[u8], plan: &Plan, k: usize) -> Case {
+    let length = match r.below(6) {
+        _ if k > 100 && r.percent(70) => r.below(40),
+        0 => r.below(8),
+        1..=4 => k + r.below(30),
+        _ => 2 * k + r.below(120),
+    };
+    let legs = walks::legs(r, plan, length);
+    Case::Session(Session { plan: bytes.to_vec(), legs: walks::offered(r, &legs, plan.m), extra: r.below(4) })
+}
+
+/// All cases of one seed, and the sound plan bytes that they begin with.
+pub fn batch(r: &mut Random) -> (Vec<u8>, Vec<Case>) {
+    let draft = plans::plan(r);
+    let bytes = bytes::layout(r, &draft);
     let (n, m) = (draft.n, draft.m);
-    for which in 0..4 {
-        let case = plan_call(r, &bytes, n, m, which);
-        cases.push(case);
-    }
-    // damaged bytes: one refusal aimed at, sometimes more than one
-    for _ in 0..4 {
-        let mut bytes = bytes.clone();
-        let aim = r.among(1, 8) as u32;
-        random::damage(r, &mut bytes, aim);
-        while r.percent(30) {
-            let aim = r.among(2, 8) as u32;
-            random::damage(r, &mut bytes, aim);
-        }
-        let which = r.below(5);
-        let case = plan_call(r, &bytes, n, m, which);
-        cases.push(case);
-    }
     let plan = read(&bytes).expect("the generator draws plans that pass 1 to 7").plan;
     let k = look_ahead(&plan);
-    // claims: true ones with others near to them, and any
-    let mut choose = r.clone();
-    r.next();
-    if let Some((evidence, letters)) = claim::example(&plan, &mut |ways| choose.below(ways)) {
-        for (claim, letters) in random::claims_near(r, &evidence, &letters, n, m, 12) {
-            cases.push(Case::Check { plan: bytes.clone(), claim, letters });
+    let mut cases = plan_calls(r, &bytes, n, m);
+    // damaged bytes: one refusal aimed at, sometimes more than one
+    for _ in 0..4 {
+        let mut damaged = bytes.clone();
+        bytes::damage(r, &mut damaged, 1);
+        while r.percent(30) {
+            bytes::damage(r, &mut damaged, 2);
         }
+        let calls = plan_calls(r, &damaged, n, m);
+        cases.push(r.pick(&calls));
     }
-    for _ in 0..2 {
-        let (claim, letters) = random::any_claim(r, &plan);
-        cases.push(Case::Check { plan: bytes.clone(), claim, letters });
+    // claims: true ones with others near to them, and any
+    let mut claims = vec![claims::any(r, &plan), claims::any(r, &plan)];
+    if let Some((evidence, codes)) = claim::example(&plan, &mut |ways| r.below(ways)) {
+        claims.extend(claims::near(r, &evidence, &codes, n, m, 12));
     }
-    // the prepared plan, and the same with another k, as preparing would never make it
+    cases.extend(claims.iter().map(|(claim, letters)| Case::check(&bytes, claim, letters)));
+    // the prepared plan
     if let Some(k) = k {
         let table = table_of(&plan, k);
-        table_calls(r, &table, &plan, k, &mut cases);
-        for _ in 0..2 {
-            let rec = random::record(r, &plan, k);
-            record_calls(r, &table, &plan, k, &rec, &mut cases);
-        }
-        // legs: around k, so that some are booked; long counts are costly and come less often
-        let length = match r.below(6) {
-            _ if k > 100 && r.percent(70) => r.below(40),
-            0 => r.below(8),
-            1..=4 => k + r.below(30),
-            _ => 2 * k + r.below(120),
-        };
-        let legs = random::legs(r, &plan, length);
-        let legs = random::offered(r, &legs, m);
-        cases.push(Case::Session { plan: bytes.clone(), legs, extra: r.below(4) });
+        cases.extend(table_calls(r, &table, &plan, k));
+        cases.extend(record_calls(r, &table, &plan, k));
+        cases.push(session(r, &bytes, &plan, k));
     }
-    let (low, any) = (r.below(20) as u32, r.next() as u32);
-    let refusal = r.pick(&[low, 256 + low, 65_536 + low, any]);
-    cases.push(Case::Group { refusal });
-    let bound = n * (n - 1) / 2;
+    // a table that preparing need not have made: the plan with another k, or any
     let other = match r.below(3) {
         0 => 0,
         1 => k.unwrap_or(r.below(4)).saturating_sub(1),
         _ => r.below(8),
     };
-    let mut table = table_of(&plan, other.min(bound));
-    if r.percent(40) {
-        table = random::table(r);
-    }
+    let table = if r.percent(40) { tables::table(r) } else { table_of(&plan, other.min(max_look_ahead(n))) };
     // the generator draws tables that pass 8; if the reference refuses one, let the comparison tell
     let Ok((plan, k)) = plan_of(&table) else {
-        cases.push(Case::Open { table, rec: 8 + bound, position: 1 });
-        return cases;
+        cases.push(Case::open(&table, record::length(max_look_ahead(n)), POSITION));
+        return (bytes, cases);
     };
     if k < 300 || r.percent(10) {
-        table_calls(r, &table, &plan, k, &mut cases);
-        let rec = random::record(r, &plan, k);
-        record_calls(r, &table, &plan, k, &rec, &mut cases);
+        cases.extend(table_calls(r, &table, &plan, k));
+        let mut damaged = table;
+        tables::damage(r, &mut damaged);
+        let calls = table_calls(r, &damaged, &plan, k);
+        cases.push(r.pick(&calls));
     }
-    // damaged tables through each call on tables
-    let mut damaged = table.clone();
-    random::damage_table(r, &mut damaged);
-    let (table, word) = (damaged, vec![0; r.below(3)]);
-    let rec = random::record(r, &plan, k);
-    cases.push(match r.below(5) {
-        0 => Case::Walk { table, sets: lend(r, word.len() + 1), word, length: lend(r, 1) },
-        1 => Case::Judge { table, state: 255, letter: 0, word, sets: lend(r, 2) },
-        2 => Case::Open { table, rec: lend(r, 8 + k), position: lend(r, 1) },
-        3 => Case::Feed { table, rec, letter: 0, position: lend(r, 1) },
-        _ => Case::Finish { table, rec, sets: lend(r, k) },
-    });
-    cases
+    let (low, any) = (r.below(20) as u32, r.next() as u32);
+    cases.push(Case::group(r.pick(&[low, 256 + low, REFUSED + low, any])));
+    (bytes, cases)
 }

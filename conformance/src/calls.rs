@@ -1,25 +1,78 @@
-//! The calls of include/gawherino.h over slices, so that the library, the reference and plain.rs can stand in each other's place.
+//! The table of calls: for each its name and what it is lent, from which come the interface that the library, the reference and plain.rs
+//! share, the descriptions that cases are run, shown and made smaller by, and the library's declarations.
 
-/// An answer from here on is a refusal: this number plus the refusal's.
-pub const REFUSED: u32 = 65_536;
-/// Opening and a leg: no stake was booked.
-pub const NOTHING: u32 = 255;
-/// With code 0: the starts, as a critical set.
-pub const STARTS: u32 = 255;
-/// The most legs that a record takes.
-pub const MOST_LEGS: u32 = 1_000_000;
+use crate::cases::{Call, Case};
+use crate::lent::{Given, Parameter, Passed};
 
-pub trait Calls: Sync {
-    fn name(&self) -> &'static str;
-    fn read(&self, plan: &[u8], counts: &mut [u32]) -> u32;
-    fn prepare(&self, plan: &[u8], table: &mut [u64], letters: &mut [u8], evidence: &mut [u32]) -> u32;
-    fn look_ahead(&self, plan: &[u8], letters: &mut [u8], evidence: &mut [u32]) -> u32;
-    fn count(&self, plan: &[u8]) -> u32;
-    fn check(&self, plan: &[u8], claim: &[u32], letters: &[u8]) -> u32;
-    fn walk(&self, table: &[u64], word: &[u8], sets: &mut [u64], length: &mut [u64]) -> u32;
-    fn judge(&self, table: &[u64], state: u32, letter: u32, word: &[u8], sets: &mut [u64]) -> u32;
-    fn open(&self, table: &[u64], rec: &mut [u8], position: &mut [u32]) -> u32;
-    fn feed(&self, table: &[u64], rec: &mut [u8], letter: u32, position: &mut [u32]) -> u32;
-    fn finish(&self, table: &[u64], rec: &[u8], sets: &mut [u64]) -> u32;
-    fn group(&self, refusal: u32) -> u32;
+/// The calls as include/gawherino.h has them, which tests/documents.rs compares. A parameter's name says its form: plan bytes, a table, rec
+/// (a record), a word. Hands the table to the macro that is named, behind what it is to be told.
+macro_rules! every_call {
+    ($to:ident $($told:tt)*) => {
+        $to! {
+            $($told)*
+            fn read(plan: &[u8], counts: &mut [u32]);
+            fn prepare(plan: &[u8], table: &mut [u64], letters: &mut [u8], evidence: &mut [u32]);
+            fn look_ahead(plan: &[u8], letters: &mut [u8], evidence: &mut [u32]);
+            fn count(plan: &[u8]);
+            fn check(plan: &[u8], claim: &[u32], letters: &[u8]);
+            fn walk(table: &[u64], word: &[u8], sets: &mut [u64], length: &mut [u64]);
+            fn judge(table: &[u64], state: u32, letter: u32, word: &[u8], sets: &mut [u64]);
+            fn open(table: &[u64], rec: &mut [u8], position: &mut [u32]);
+            fn feed(table: &[u64], rec: &mut [u8], letter: u32, position: &mut [u32]);
+            fn finish(table: &[u64], rec: &[u8], sets: &mut [u64]);
+            fn group(refusal: u32);
+        }
+    };
 }
+pub(crate) use every_call;
+
+/// A call's description.
+pub struct Description {
+    pub name: &'static str,
+    pub parameters: &'static [Parameter],
+    /// Runs it with what is given for each parameter.
+    pub run: fn(&dyn Calls, &mut [Given]) -> u32,
+}
+
+macro_rules! interface {
+    ($(fn $name:ident($($parameter:ident: $type:ty),*);)*) => {
+        /// Each call over slices: a value, or 65,536 plus the refusal.
+        pub trait Calls: Sync {
+            fn name(&self) -> &'static str;
+            $(fn $name(&self, $($parameter: $type),*) -> u32;)*
+        }
+
+        pub static CALLS: &[Description] = &[$(Description {
+            name: stringify!($name),
+            parameters: &[$(Parameter { name: stringify!($parameter), ..<$type as Passed>::FORM }),*],
+            run: |calls, given| {
+                let mut given = given.iter_mut();
+                calls.$name($(<$type as Passed>::passed(given.next().expect(stringify!($parameter)))),*)
+            },
+        }),*];
+
+        /// A case of each call: for a slice its elements, or the length of one that is lent full of the pattern.
+        impl Case {
+            $(pub fn $name($($parameter: impl Into<Given>),*) -> Case {
+                Case::Call(Call::new(stringify!($name), vec![$($parameter.into()),*]))
+            })*
+        }
+    };
+}
+every_call!(interface);
+
+/// Implements the interface by functions of the same names, whose results are made one number by `$answer`.
+macro_rules! by_functions {
+    ($side:ident $name:literal $answer:ident $(fn $call:ident($($parameter:ident: $type:ty),*);)*) => {
+        impl crate::calls::Calls for $side {
+            fn name(&self) -> &'static str {
+                $name
+            }
+
+            $(fn $call(&self, $($parameter: $type),*) -> u32 {
+                $answer($call($($parameter),*))
+            })*
+        }
+    };
+}
+pub(crate) use by_functions;

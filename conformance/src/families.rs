@@ -1,5 +1,7 @@
 //! Plans as lists, their bytes, and families of plans whose count is known.
 
+use crate::forms::plan::{header, HEADER, LINE};
+
 pub type Line = (u8, u8, u8);
 
 /// A plan as a list of starts and lines, before it is bytes.
@@ -15,16 +17,11 @@ pub fn draft(n: usize, m: usize, starts: &[u8], lines: &[Line]) -> Draft {
     Draft { n, m, starts: starts.to_vec(), lines: lines.to_vec() }
 }
 
-/// The header's eight numbers.
-pub fn header(numbers: [usize; 8]) -> Vec<u8> {
-    numbers.iter().flat_map(|&number| (number as u16).to_le_bytes()).collect()
-}
-
 impl Draft {
-    /// Plan bytes: the starts at 16, the lines behind them, no gaps.
+    /// Plan bytes: the starts behind the header, the lines behind them, no gaps.
     pub fn bytes(&self) -> Vec<u8> {
         let (p, e) = (self.starts.len(), self.lines.len());
-        let mut bytes = header([1, self.n, self.m, p, e, 16, 16 + p, 16 + p + 3 * e]);
+        let mut bytes = header([1, self.n, self.m, p, e, HEADER, HEADER + p, HEADER + p + LINE * e]);
         bytes.extend(&self.starts);
         bytes.extend(self.lines.iter().flat_map(|&(from, code, to)| [from, code, to]));
         bytes

@@ -3,11 +3,15 @@
 pub mod batch;
 pub mod calls;
 pub mod cases;
+pub mod classes;
 pub mod families;
+pub mod forms;
+pub mod lent;
 #[cfg(feature = "library")]
 pub mod library;
 pub mod plain;
 pub mod random;
 pub mod reference;
+pub mod session;
 pub mod shrink;
 pub mod tally;

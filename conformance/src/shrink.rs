@@ -1,7 +1,13 @@
 //! A smaller case that still fails, by simple means: fewer lines, starts, stakes and codes, fewer legs and letters, fewer bits in tables.
 
 use crate::calls::Calls;
-use crate::cases::{compare, show, Case};
+use crate::cases::Case;
+use crate::families::{draft, Draft, Line};
+use crate::forms::plan::{number, set_number, E, EDITION, HEADER, LINE, LINES_AT, M, N, P, STARTS_AT, TOTAL};
+use crate::forms::table::K;
+use crate::forms::MAX_STAKES;
+use crate::lent::{Element, Given};
+use crate::session::Session;
 use std::time::{Duration, Instant};
 
 /// The list with one piece left out, for pieces from all of it down to one member.
@@ -20,141 +26,87 @@ fn without_a_piece<T: Clone>(list: &[T]) -> Vec<Vec<T>> {
 
 /// Plan bytes with some lines, starts or gaps left out, as long as the header says where the parts are; plan bytes need not be sound.
 fn smaller_plans(bytes: &[u8]) -> Vec<Vec<u8>> {
-    if bytes.len() < 16 {
+    if bytes.len() < HEADER {
         return Vec::new();
     }
-    let field = |place: usize| bytes[2 * place] as usize + 256 * bytes[2 * place + 1] as usize;
-    let (n, m, p, e, starts_at, lines_at, total) = (field(1), field(2), field(3), field(4), field(5), field(6), field(7));
-    if total != bytes.len() || starts_at + p > total || lines_at + 3 * e > total {
+    let [edition, n, m, p, e, starts_at, lines_at, total] =
+        [EDITION, N, M, P, E, STARTS_AT, LINES_AT, TOTAL].map(|place| number(bytes, place));
+    if total != bytes.len() || starts_at + p > total || lines_at + LINE * e > total {
         return Vec::new();
     }
-    let starts = &bytes[starts_at..starts_at + p];
-    let lines: Vec<[u8; 3]> = (0..e).map(|i| std::array::from_fn(|part| bytes[lines_at + 3 * i + part])).collect();
-    let build = |n: usize, m: usize, starts: &[u8], lines: &[[u8; 3]]| {
-        let (p, e) = (starts.len(), lines.len());
-        let numbers = [field(0), n, m, p, e, 16, 16 + p, 16 + p + 3 * e];
-        let mut plan: Vec<u8> = numbers.iter().flat_map(|&number| (number as u16).to_le_bytes()).collect();
-        plan.extend(starts);
-        plan.extend(lines.iter().flatten());
-        plan
-    };
-    let mut plans: Vec<Vec<u8>> = Vec::new();
-    plans.extend(without_a_piece(&lines).iter().map(|lines| build(n, m, starts, lines)));
-    plans.extend(without_a_piece(starts).iter().map(|starts| build(n, m, starts, &lines)));
-    plans.push(build(n.wrapping_sub(1), m, starts, &lines));
-    plans.push(build(n, m.wrapping_sub(1), starts, &lines));
-    plans.push(build(n, m, starts, &lines));
+    let starts = bytes[starts_at..starts_at + p].to_vec();
+    let lines: Vec<Line> = bytes[lines_at..lines_at + LINE * e].chunks(LINE).map(|line| (line[0], line[1], line[2])).collect();
+    let mut plans: Vec<Draft> = without_a_piece(&lines).iter().map(|lines| draft(n, m, &starts, lines)).collect();
+    plans.extend(without_a_piece(&starts).iter().map(|starts| draft(n, m, starts, &lines)));
+    plans.extend([(n.wrapping_sub(1), m), (n, m.wrapping_sub(1)), (n, m)].map(|(n, m)| draft(n, m, &starts, &lines)));
     // a stake out of the way: the last one takes the number of another
-    for stake in 0..n.min(64) {
-        let last = n as u8 - 1;
-        let name = |s: u8| if s == last { stake as u8 } else { s };
-        if !starts.contains(&(stake as u8)) && !lines.iter().any(|line| line[0] == stake as u8 || line[2] == stake as u8) {
-            let renamed: Vec<[u8; 3]> = lines.iter().map(|line| [name(line[0]), line[1], name(line[2])]).collect();
-            let starts: Vec<u8> = starts.iter().map(|&s| name(s)).collect();
-            plans.push(build(n - 1, m, &starts, &renamed));
+    for stake in 0..n.min(MAX_STAKES) as u8 {
+        if !starts.contains(&stake) && !lines.iter().any(|line| line.0 == stake || line.2 == stake) {
+            let name = |s: u8| if s as usize == n - 1 { stake } else { s };
+            let lines = lines.iter().map(|&(from, code, to)| (name(from), code, name(to))).collect();
+            plans.push(Draft { n: n - 1, m, starts: starts.iter().map(|&s| name(s)).collect(), lines });
         }
     }
-    plans.retain(|plan| plan.len() < bytes.len() || (plan.len() == bytes.len() && plan.as_slice() < bytes));
-    plans
+    let smaller = |plan: &Draft| {
+        let mut smaller = plan.bytes();
+        set_number(&mut smaller, EDITION, edition);
+        ((smaller.len(), smaller.as_slice()) < (bytes.len(), bytes)).then_some(smaller)
+    };
+    plans.iter().filter_map(smaller).collect()
 }
 
 /// Tables with sets emptied or without a bit, or with a smaller k.
 fn smaller_tables(table: &[u64]) -> Vec<Vec<u64>> {
     let mut tables = Vec::new();
-    for place in 2..table.len() {
-        if table[place] == 0 {
-            continue;
-        }
-        let mut fewer = vec![0, table[place] & (table[place] - 1)];
-        if place == 2 {
-            fewer = vec![0, table[2] / 2, table[2] - 1];
-        }
-        for number in fewer {
+    for place in K..table.len() {
+        let number = table[place];
+        let fewer = if place == K { [0, number / 2, number.saturating_sub(1)] } else { [0, 0, number & number.wrapping_sub(1)] };
+        for fewer in fewer.into_iter().filter(|&fewer| fewer < number) {
             let mut other = table.to_vec();
-            other[place] = number;
+            other[place] = fewer;
             tables.push(other);
         }
     }
-    tables.retain(|other| other != table);
     tables
 }
 
+/// Smaller ones in the place of what is given for a parameter of this name. A record's bytes all have their place.
+fn smaller_given(name: &str, given: &Given) -> Vec<Given> {
+    fn all<T: Element>(lists: Vec<Vec<T>>) -> Vec<Given> {
+        lists.into_iter().map(T::given).collect()
+    }
+    match (name, given) {
+        ("plan", Given::U8(bytes)) => all(smaller_plans(bytes)),
+        ("rec", _) => vec![],
+        (_, Given::U8(list)) => all(without_a_piece(list)),
+        (_, Given::U64(table)) => all(smaller_tables(table)),
+        _ => vec![],
+    }
+}
+
 fn smaller(case: &Case) -> Vec<Case> {
-    let mut cases = Vec::new();
-    let mut push = |change: &dyn Fn(&mut Case)| {
-        let mut other = case.clone();
-        change(&mut other);
-        cases.push(other);
-    };
-    // legs, words and letters
     match case {
-        Case::Session { legs: list, .. } => {
-            for shorter in without_a_piece(list) {
-                push(&|other| {
-                    if let Case::Session { legs, .. } = other {
-                        *legs = shorter.clone();
-                    }
-                });
-            }
+        Case::Call(call) => {
+            let with = |place: usize, given| {
+                let mut other = call.clone();
+                other.given[place] = given;
+                Case::Call(other)
+            };
+            // the last parameter first: a word before its plan or table
+            let places = call.what.parameters.iter().zip(&call.given).enumerate().rev();
+            places
+                .flat_map(|(place, (parameter, given))| {
+                    smaller_given(parameter.name, given).into_iter().map(move |given| with(place, given))
+                })
+                .collect()
         }
-        Case::Walk { word: list, .. } | Case::Judge { word: list, .. } => {
-            for shorter in without_a_piece(list) {
-                push(&|other| {
-                    if let Case::Walk { word, .. } | Case::Judge { word, .. } = other {
-                        *word = shorter.clone();
-                    }
-                });
-            }
-        }
-        _ => {}
-    }
-    match case {
-        Case::Session { plan, .. }
-        | Case::Read { plan, .. }
-        | Case::Prepare { plan, .. }
-        | Case::LookAhead { plan, .. }
-        | Case::Count { plan }
-        | Case::Check { plan, .. } => {
-            for fewer in smaller_plans(plan) {
-                push(&|other| match other {
-                    Case::Session { plan, .. }
-                    | Case::Read { plan, .. }
-                    | Case::Prepare { plan, .. }
-                    | Case::LookAhead { plan, .. }
-                    | Case::Count { plan }
-                    | Case::Check { plan, .. } => *plan = fewer.clone(),
-                    _ => {}
-                });
-            }
-        }
-        Case::Group { .. } => {}
-        Case::Walk { table, .. }
-        | Case::Judge { table, .. }
-        | Case::Open { table, .. }
-        | Case::Feed { table, .. }
-        | Case::Finish { table, .. } => {
-            for fewer in smaller_tables(table) {
-                push(&|other| match other {
-                    Case::Walk { table, .. }
-                    | Case::Judge { table, .. }
-                    | Case::Open { table, .. }
-                    | Case::Feed { table, .. }
-                    | Case::Finish { table, .. } => *table = fewer.clone(),
-                    _ => {}
-                });
-            }
+        Case::Session(session) => {
+            let legs = without_a_piece(&session.legs).into_iter().map(|legs| Session { legs, ..session.clone() });
+            let plans = smaller_plans(&session.plan).into_iter().map(|plan| Session { plan, ..session.clone() });
+            let fitting = (session.extra > 0).then(|| Session { extra: 0, ..session.clone() });
+            legs.chain(plans).chain(fitting).map(Case::Session).collect()
         }
     }
-    if let Case::Session { extra, .. } = case {
-        if *extra > 0 {
-            push(&|other| {
-                if let Case::Session { extra, .. } = other {
-                    *extra = 0;
-                }
-            });
-        }
-    }
-    cases
 }
 
 /// The smallest failing case that is found in a few seconds (GAWHERINO_SHRINK: in how many), with what it shows.
@@ -167,7 +119,7 @@ pub fn smallest(case: &Case, subject: &dyn Calls, message: String) -> (Case, Str
             if Instant::now() > end {
                 return (case, message);
             }
-            if let Err(found) = compare(&other, subject) {
+            if let Err(found) = other.compare(subject) {
                 (case, message) = (other, found);
                 continue 'again;
             }
@@ -179,5 +131,5 @@ pub fn smallest(case: &Case, subject: &dyn Calls, message: String) -> (Case, Str
 /// Fails with the seed, the smallest case in hexadecimal and what is expected.
 pub fn fail(case: &Case, subject: &dyn Calls, message: String, origin: &str) -> ! {
     let (small, found) = smallest(case, subject, message);
-    panic!("\nthe reference and the {} disagree ({origin}); the smallest case found:\n  {}\n  {found}\n", subject.name(), show(&small));
+    panic!("\nthe reference and the {} disagree ({origin}); the smallest case found:\n  {}\n  {found}\n", subject.name(), small.show());
 }

@@ -2,12 +2,12 @@
 
 mod common;
 
-use conformance::random::{self, Random};
+use conformance::random::{bytes, claims, plans, Random};
 use conformance::reference::claim;
 use conformance::reference::lookahead::look_ahead;
 use conformance::reference::plan::{read, Plan};
 use conformance::reference::walk::{possible, reach, verdict, whole_walk};
-use conformance::reference::{members, size, Stakes};
+use conformance::reference::{members, only, size};
 
 fn words(m: usize, length: usize) -> Vec<Vec<u8>> {
     let mut list = vec![Vec::new()];
@@ -50,11 +50,11 @@ fn tiny_plans(how_many: u64) -> impl Iterator<Item = (u64, Random, Plan)> {
     (0..)
         .map(move |number| (number, Random::new(seed ^ 0xDEF, number)))
         .filter_map(|(number, mut r)| {
-            let draft = random::plan(&mut r);
+            let draft = plans::plan(&mut r);
             if draft.n > 5 || draft.m.pow((draft.n * (draft.n - 1) / 2) as u32) > 1100 {
                 return None;
             }
-            let plan = read(&random::layout(&mut r, &draft)).expect("sound").plan;
+            let plan = read(&bytes::layout(&mut r, &draft)).expect("sound").plan;
             Some((number, r, plan))
         })
         .take(how_many as usize)
@@ -107,7 +107,7 @@ fn possible_stakes_and_verdicts_word_by_word() {
         }
         // paths and sets
         for s in 0..plan.n {
-            let only: Stakes = (0..plan.n).map(|t| s == t).collect();
+            let only = only(plan.n, s);
             let reached = reach(&plan, &only, &word);
             assert!((0..plan.n).all(|t| reached[t] == leads(&plan, s, &word, t)), "case {number}");
             assert_eq!(size(&possible(&plan, &only, &word)[0]) == 1, walks(&plan, s, &word), "case {number}");
@@ -119,13 +119,13 @@ fn possible_stakes_and_verdicts_word_by_word() {
 fn claims_by_paths() {
     let (mut yes, mut no) = (0, 0);
     for (number, mut r, plan) in tiny_plans(1500) {
-        let mut claims = vec![random::any_claim(&mut r, &plan), random::any_claim(&mut r, &plan)];
+        let mut all = vec![claims::any(&mut r, &plan), claims::any(&mut r, &plan)];
         let mut choose = r.clone();
         if let Some((claim, letters)) = claim::example(&plan, &mut |ways| choose.below(ways)) {
             assert!(claim::holds(&plan, &claim, &letters), "case {number}");
-            claims.extend(random::claims_near(&mut r, &claim, &letters, plan.n, plan.m, 10));
+            all.extend(claims::near(&mut r, &claim, &letters, plan.n, plan.m, 10));
         }
-        for (claim, letters) in claims {
+        for (claim, letters) in all {
             let holds = claim::holds(&plan, &claim, &letters);
             assert_eq!(holds, literal_claim(&plan, &claim, &letters).is_some(), "case {number}: {claim:?} {letters:?} {plan:?}");
             *(if holds { &mut yes } else { &mut no }) += 1;

@@ -3,16 +3,20 @@
 
 mod common;
 
-use conformance::calls::{Calls, NOTHING, REFUSED, STARTS};
-use conformance::cases::{compare, Case};
-use conformance::families::{all_pairs, draft, header, odometer, theorem_5, unary_chain, Draft, Line};
+use conformance::calls::{Calls, CALLS};
+use conformance::cases::Case;
+use conformance::families::{all_pairs, draft, odometer, theorem_5, unary_chain, Draft, Line};
+use conformance::forms::plan::header;
+use conformance::forms::*;
+use conformance::lent::{Kind, Parameter};
 use conformance::random::Random;
+use conformance::session::Session;
 use conformance::shrink::fail;
 
 /// A prepared plan, or the refusal.
 fn prepared(calls: &dyn Calls, plan: &Draft) -> Result<(u32, Vec<u64>), u32> {
-    let (mut table, mut letters, mut evidence) = (vec![0; 4 + plan.n * plan.m], vec![0; plan.n * plan.n], vec![0; 6]);
-    let reply = calls.prepare(&plan.bytes(), &mut table, &mut letters, &mut evidence);
+    let (mut table, mut letters) = (vec![0; table::length(plan.n, plan.m)], vec![0; letters(plan.n)]);
+    let reply = calls.prepare(&plan.bytes(), &mut table, &mut letters, &mut [0; evidence::NUMBERS]);
     if reply >= REFUSED {
         return Err(reply - REFUSED);
     }
@@ -24,13 +28,11 @@ fn counted(calls: &dyn Calls, plan: &Draft, expected: Result<u32, u32>, name: &s
     let bytes = plan.bytes();
     let (n, m) = (plan.n, plan.m);
     for case in [
-        Case::Prepare { plan: bytes.clone(), table: 4 + n * m + 1, letters: n * n + 1, evidence: 7 },
-        Case::LookAhead { plan: bytes.clone(), letters: n * n, evidence: 6 },
-        Case::Count { plan: bytes.clone() },
+        Case::prepare(&bytes, table::length(n, m) + 1, letters(n) + 1, evidence::NUMBERS + 1),
+        Case::look_ahead(&bytes, letters(n), evidence::NUMBERS),
+        Case::count(&bytes),
     ] {
-        if let Err(message) = compare(&case, calls) {
-            fail(&case, calls, message, name);
-        }
+        case.compare(calls).unwrap_or_else(|message| fail(&case, calls, message, name));
     }
     let number = match expected {
         Ok(k) => k,
@@ -38,7 +40,7 @@ fn counted(calls: &dyn Calls, plan: &Draft, expected: Result<u32, u32>, name: &s
     };
     assert_eq!(calls.count(&bytes), number, "{name} by the drawing entry of {}", calls.name());
     assert_eq!(prepared(calls, plan).map(|(k, _)| k), expected, "{name} by preparing of {}", calls.name());
-    let mut counts = [0; 3];
+    let mut counts = [0; COUNTS];
     assert_eq!(calls.read(&bytes, &mut counts), n as u32, "{name}");
     assert_eq!(counts, [m as u32, plan.starts.len() as u32, plan.lines.len() as u32], "{name}");
 }
@@ -57,7 +59,7 @@ fn walked(calls: &dyn Calls, table: &[u64], word: &[u8]) -> Vec<u64> {
 
 /// A verdict: minimal selector or not, who can walk the word, for whom it is a maximal nonselector.
 fn judged(calls: &dyn Calls, table: &[u64], state: u32, letter: u32, word: &[u8]) -> (bool, u64, u64) {
-    let mut sets = [0; 2];
+    let mut sets = [0; VERDICT];
     let reply = calls.judge(table, state, letter, word, &mut sets);
     assert!(reply <= 1);
     (reply == 1, sets[0], sets[1])
@@ -141,10 +143,14 @@ fn groups_of_refusals() {
     }
 }
 
+fn header_text() -> String {
+    std::fs::read_to_string(concat!(env!("CARGO_MANIFEST_DIR"), "/../include/gawherino.h")).expect("the header is there")
+}
+
 /// The header's numbers: each refusal has one name, which stands under its group, and the sizes are those of 64 stakes and 32 codes.
 #[test]
 fn numbers_of_the_header() {
-    let header = std::fs::read_to_string(concat!(env!("CARGO_MANIFEST_DIR"), "/../include/gawherino.h")).expect("the header is there");
+    let header = header_text();
     let defined = |line: &str| -> Option<(String, u32)> {
         let mut words = line.strip_prefix("#define GAWHERINO_")?.split_whitespace();
         Some((words.next()?.to_string(), words.next()?.trim_end_matches('u').parse().ok()?))
@@ -168,31 +174,46 @@ fn numbers_of_the_header() {
     refusals.sort();
     assert_eq!(refusals, (1..=15).collect::<Vec<u32>>());
     let numbers: std::collections::BTreeMap<String, u32> = header.lines().filter_map(defined).collect();
+    let k = max_look_ahead(MAX_STAKES);
     let sizes = [
-        ("REFUSED", REFUSED),
-        ("NOTHING", NOTHING),
-        ("STARTS", STARTS),
-        ("AUTHOR", 1),
-        ("CALLER", 2),
-        ("LOGGER", 3),
-        ("NOBODY", 0),
-        ("MAX_STAKES", 64),
-        ("MAX_CODES", 32),
-        ("MAX_LINES", 4096),
-        ("MAX_PLAN", u16::MAX as u32),
-        ("MAX_LOOKAHEAD", 64 * 63 / 2),
-        ("MAX_TABLE", 4 + 64 * 32),
-        ("MAX_RECORD", 8 + 64 * 63 / 2),
-        ("MAX_LETTERS", 64 * 64),
-        ("MAX_SETS", 64 * 63 / 2),
-        ("MAX_LEGS", 1_000_000),
-        ("COUNTS", 3),
-        ("EVIDENCE", 6),
-        ("VERDICT", 2),
+        ("MAX_STAKES", MAX_STAKES),
+        ("MAX_CODES", MAX_CODES),
+        ("MAX_LINES", MAX_LINES),
+        ("MAX_PLAN", u16::MAX as usize),
+        ("MAX_LOOKAHEAD", k),
+        ("MAX_TABLE", table::length(MAX_STAKES, MAX_CODES)),
+        ("MAX_RECORD", record::length(k)),
+        ("MAX_LETTERS", letters(MAX_STAKES)),
+        ("MAX_SETS", k),
+        ("MAX_LEGS", MAX_LEGS as usize),
+        ("REFUSED", REFUSED as usize),
+        ("NOTHING", NOTHING as usize),
+        ("STARTS", STARTS as usize),
+        ("COUNTS", COUNTS),
+        ("EVIDENCE", evidence::NUMBERS),
+        ("VERDICT", VERDICT),
     ];
-    for (name, number) in sizes {
-        assert_eq!(numbers.get(name), Some(&number), "GAWHERINO_{name}");
+    let groups = GROUPS.iter().enumerate().map(|(number, name)| (name.to_uppercase(), number));
+    for (name, number) in sizes.map(|(name, number)| (name.to_string(), number)).into_iter().chain(groups) {
+        assert_eq!(numbers.get(&name), Some(&(number as u32)), "GAWHERINO_{name}");
     }
+}
+
+/// The header declares the calls of the table in its order, so that none is missed here and the library is called as it is declared.
+#[test]
+fn calls_of_the_header() {
+    let header = header_text();
+    let declared = header.split("\nuint32_t gawherino_").skip(1).map(|rest| rest.split_once(';').expect("it ends").0);
+    let declared: Vec<String> = declared.map(|text| text.split_whitespace().collect::<Vec<_>>().join(" ")).collect();
+    let of_the_table = CALLS.iter().map(|call| {
+        let parameters = call.parameters.iter().map(|Parameter { name, kind, c, .. }| match kind {
+            Kind::Number => format!("{c} {name}"),
+            Kind::Input => format!("const {c} *{name}, size_t {name}_len"),
+            Kind::Output => format!("{c} *{name}, size_t {name}_len"),
+        });
+        format!("{}({})", call.name, parameters.collect::<Vec<_>>().join(", "))
+    });
+    assert_eq!(declared, of_the_table.collect::<Vec<_>>());
 }
 
 /// "12: a code .. in a call not below the plan's": a code is any 32-bit number, also where a part of its bits would be one of the plan's.
@@ -410,13 +431,13 @@ fn sizes_that_are_only_run() {
         more.push((63, 0, 63));
         let many = draft(64, 4, &[7], &more).bytes();
         for case in [
-            Case::Read { plan: many.clone(), counts: 3 },
-            Case::Prepare { plan: many.clone(), table: 4 + 64 * 4, letters: 4096, evidence: 6 },
-            Case::LookAhead { plan: many.clone(), letters: 4096, evidence: 6 },
-            Case::Count { plan: many.clone() },
-            Case::Check { plan: many.clone(), claim: vec![255, 0, 0, 1, 0, 1], letters: vec![0] },
+            Case::read(&many, COUNTS),
+            Case::prepare(&many, table::length(64, 4), letters(64), evidence::NUMBERS),
+            Case::look_ahead(&many, letters(64), evidence::NUMBERS),
+            Case::count(&many),
+            Case::check(&many, [STARTS, 0, 0, 1, 0, 1].as_slice(), [0u8].as_slice()),
         ] {
-            compare(&case, calls).unwrap_or_else(|message| fail(&case, calls, message, "e 4,097"));
+            case.compare(calls).unwrap_or_else(|message| fail(&case, calls, message, "e 4,097"));
         }
         assert_eq!(calls.count(&many), REFUSED + 3, "e 4,097");
         // 0 starts
@@ -479,8 +500,8 @@ fn a_million_legs() {
                 }
             }
             legs.extend([0, 255, u32::MAX, 0]);
-            let case = Case::Session { plan: plan.bytes(), legs, extra: 2 };
-            match compare(&case, calls.as_ref()) {
+            let session = Session { plan: plan.bytes(), legs, extra: 2 };
+            match session.compare(calls.as_ref()) {
                 Ok(met) => {
                     assert!(met.contains(&"session of 1,000,000 legs".to_string()), "{met:?}");
                     assert!(met.contains(&"session with refused legs 11".to_string()), "{met:?}");

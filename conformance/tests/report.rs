@@ -5,7 +5,9 @@ mod common;
 
 use common::program::{plan_a, program, ring, with_legs, SAMPLE};
 use conformance::families::{draft, odometer};
-use conformance::random::{self, Random};
+use conformance::forms::plan::{number, HEADER, TOTAL};
+use conformance::lent::hex;
+use conformance::random::{bytes, plans, walks, Random};
 use conformance::reference::plan::read;
 use conformance::reference::report::report;
 use std::io::Write;
@@ -29,10 +31,6 @@ fn written(input: &[u8]) -> String {
     String::from_utf8(output.stdout).expect("the report is text")
 }
 
-fn hex(bytes: &[u8]) -> String {
-    bytes.iter().map(|byte| format!("{byte:02x} ")).collect::<String>()
-}
-
 /// Compares one input, and on a difference looks for a smaller one by dropping legs.
 fn agree(input: &[u8], origin: &str) {
     let differs = |input: &[u8]| written(input) != report(input);
@@ -43,7 +41,7 @@ fn agree(input: &[u8], origin: &str) {
     let mut piece = input.len() / 2;
     let end = Instant::now() + Duration::from_secs(10);
     while piece > 0 {
-        let mut from = if input.len() >= 16 { u16::from_le_bytes([input[14], input[15]]) as usize } else { 0 };
+        let mut from = if input.len() >= HEADER { number(&input, TOTAL) } else { 0 };
         while from + piece <= input.len() && Instant::now() < end {
             let shorter = [&input[..from], &input[from + piece..]].concat();
             if differs(&shorter) {
@@ -165,7 +163,7 @@ fn a_long_count() {
     let meaning = read(&bytes).expect("sound").plan;
     let mut r = Random::new(common::seed(), 7);
     for length in [0, 100, 1023, 1024, 1025, 1500] {
-        let legs = random::legs(&mut r, &meaning, length);
+        let legs = walks::legs(&mut r, &meaning, length);
         agree(&with_legs(&plan, &legs), "k 1,024");
     }
 }
@@ -177,14 +175,13 @@ fn random_plans_and_legs() {
     let how_many = 15 * common::seconds().max(20);
     for number in 0..how_many {
         let mut r = Random::new(seed ^ 0x2E9, number);
-        let draft = random::plan(&mut r);
-        let mut input = random::layout(&mut r, &draft);
+        let draft = plans::plan(&mut r);
+        let mut input = bytes::layout(&mut r, &draft);
         let meaning = read(&input).expect("sound").plan;
         let length = r.pick(&[0, 1, 3, 10, 40, 150]);
-        let legs = random::legs(&mut r, &meaning, length);
+        let legs = walks::legs(&mut r, &meaning, length);
         if r.percent(35) {
-            let aim = r.among(2, 8) as u32;
-            random::damage(&mut r, &mut input, aim);
+            bytes::damage(&mut r, &mut input, 2);
         }
         input.extend(&legs);
         if r.percent(12) {

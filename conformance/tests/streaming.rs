@@ -5,7 +5,8 @@ mod common;
 
 use common::program::{plan_a, program, ring, with_legs, SAMPLE};
 use conformance::families::{draft, odometer};
-use conformance::random::{self, Random};
+use conformance::forms::plan::{number, HEADER, TOTAL};
+use conformance::random::{bytes, plans, walks, Random};
 use conformance::reference::plan::read;
 use conformance::reference::report::report;
 use std::fs::File;
@@ -50,13 +51,13 @@ fn cut(pieces: Vec<Vec<u8>>) -> String {
 
 /// An input in pieces of a size that `size` gives, none longer than what the program asks for at that place.
 fn pieces(input: &[u8], mut size: impl FnMut() -> usize) -> Vec<Vec<u8>> {
-    let total = if input.len() >= 16 { u16::from_le_bytes([input[14], input[15]]) as usize } else { 16 };
+    let total = if input.len() >= HEADER { number(input, TOTAL) } else { HEADER };
     let mut pieces = Vec::new();
     let mut at = 0;
     while at < input.len() {
         let asked = match at {
             // once the total's first byte is there, more than 16 may be asked for: never more than the total
-            0..=15 => 16 - at,
+            _ if at < HEADER => HEADER - at,
             _ if at < total => total - at,
             _ => 4096,
         };
@@ -134,11 +135,11 @@ fn random_inputs_in_random_parts() {
     let seed = common::seed();
     for number in 0..10 * common::seconds().max(20) {
         let mut r = Random::new(seed ^ 0x51A, number);
-        let draft = random::plan(&mut r);
-        let mut input = random::layout(&mut r, &draft);
+        let draft = plans::plan(&mut r);
+        let mut input = bytes::layout(&mut r, &draft);
         let meaning = read(&input).expect("sound").plan;
         let length = r.pick(&[0, 1, 3, 10, 40, 150]);
-        let legs = random::legs(&mut r, &meaning, length);
+        let legs = walks::legs(&mut r, &meaning, length);
         input.extend(&legs);
         let most = r.pick(&[1, 2, 7, 40, 5000]);
         let parts = pieces(&input, || r.below(most) + 1);

@@ -1,7 +1,8 @@
 //! Benchmarks: the proved library and plain.rs side by side in one run, each call through the same interface of slices. Prints Markdown.
 
-use conformance::calls::{Calls, REFUSED};
+use conformance::calls::Calls;
 use conformance::families::{draft, ladder, odometer, Draft, Line};
+use conformance::forms::{evidence, letters, record, table, COUNTS, LENGTH, MAX_CODES, MAX_LINES, MAX_STAKES, POSITION, REFUSED};
 use conformance::library::Library;
 use conformance::plain::Plain;
 use conformance::random::Random;
@@ -13,6 +14,10 @@ const SAMPLE: Duration = Duration::from_millis(20);
 const SAMPLES: usize = 15;
 /// Of an operation that takes longer than a sample.
 const FEW_SAMPLES: usize = 7;
+
+/// Room for the evidence of any plan.
+const LETTERS: usize = letters(MAX_STAKES);
+const EVIDENCE: usize = evidence::NUMBERS;
 
 /// Linux's timespec and clock_gettime, which std links anyway.
 #[repr(C)]
@@ -99,49 +104,51 @@ fn downhill(r: &mut Random, m: usize, e: usize) -> Draft {
     let mut lines: Vec<Line> = Vec::new();
     let mut seen = std::collections::HashSet::new();
     while lines.len() < e {
-        let (a, b) = (r.below(64) as u8, r.below(64) as u8);
+        let (a, b) = (r.below(MAX_STAKES) as u8, r.below(MAX_STAKES) as u8);
         let line = (a, r.below(m) as u8, b);
         if a < b && seen.insert(line) {
             lines.push(line);
         }
     }
-    draft(64, m, &[0], &lines)
+    draft(MAX_STAKES, m, &[0], &lines)
 }
 
 fn any_lines(r: &mut Random, m: usize, e: usize) -> Draft {
     let mut seen = std::collections::HashSet::new();
     let mut lines: Vec<Line> = Vec::new();
     while lines.len() < e {
-        let line = (r.below(64) as u8, r.below(m) as u8, r.below(64) as u8);
+        let line = (r.below(MAX_STAKES) as u8, r.below(m) as u8, r.below(MAX_STAKES) as u8);
         if seen.insert(line) {
             lines.push(line);
         }
     }
-    draft(64, m, &[0], &lines)
+    draft(MAX_STAKES, m, &[0], &lines)
 }
 
 /// One line out of each stake by each code: k 0.
 fn deterministic(r: &mut Random, m: usize) -> Draft {
-    let lines: Vec<Line> = (0..64).flat_map(|s| (0..m as u8).map(move |c| (s, c, 0))).collect();
-    let lines = lines.into_iter().map(|(s, c, _)| (s, c, r.below(64) as u8)).collect::<Vec<_>>();
-    draft(64, m, &[0], &lines)
+    let lines: Vec<Line> = (0..MAX_STAKES as u8).flat_map(|s| (0..m as u8).map(move |c| (s, c, 0))).collect();
+    let lines = lines.into_iter().map(|(s, c, _)| (s, c, r.below(MAX_STAKES) as u8)).collect::<Vec<_>>();
+    draft(MAX_STAKES, m, &[0], &lines)
 }
 
 fn full_size(mut plan: Draft) -> Draft {
-    (plan.n, plan.m) = (64, 32);
+    (plan.n, plan.m) = (MAX_STAKES, MAX_CODES);
     plan
 }
 
 fn table_of(plan: &Draft) -> Vec<u64> {
-    let (mut table, mut letters, mut evidence) = (vec![0; 4 + plan.n * plan.m], vec![0; 4096], vec![0; 6]);
-    assert!(Plain.prepare(&plan.bytes(), &mut table, &mut letters, &mut evidence) < REFUSED);
+    let mut table = vec![0; table::length(plan.n, plan.m)];
+    assert!(Plain.prepare(&plan.bytes(), &mut table, &mut [0; LETTERS], &mut [0; EVIDENCE]) < REFUSED);
     table
 }
 
 /// A random walk that stays on the plan.
 fn walk_on(r: &mut Random, table: &[u64], length: usize) -> Vec<u8> {
-    let (m, mut set) = (table[1] as usize, table[3]);
-    let step = |set: u64, code: usize| (0..64).filter(|s| set >> s & 1 == 1).fold(0, |led_to, s| led_to | table[4 + s * m + code]);
+    let (m, mut set) = (table[table::M] as usize, table[table::STARTS]);
+    let step = |set: u64, code: usize| {
+        (0..MAX_STAKES).filter(|s| set >> s & 1 == 1).fold(0, |led_to, s| led_to | table[table::SETS + s * m + code])
+    };
     let mut word = Vec::new();
     for _ in 0..length {
         let ways: Vec<(usize, u64)> = (0..m).map(|code| (code, step(set, code))).filter(|way| way.1 != 0).collect();
@@ -162,7 +169,7 @@ fn main() {
     println!("| what | library | plain Rust | plain / library |");
     println!("|---|---|---|---|");
 
-    let full = downhill(&mut r, 32, 4096).bytes();
+    let full = downhill(&mut r, MAX_CODES, MAX_LINES).bytes();
     let every: Vec<Line> = (0..64).flat_map(|from| (0..64).map(move |to| (from, 0, to))).collect();
     let every = draft(64, 1, &[0], &every);
     let small = draft(3, 1, &[0], &[(0, 0, 1), (1, 0, 1), (1, 0, 2)]).bytes();
@@ -170,7 +177,7 @@ fn main() {
         [("read, 4,096 lines over 64 × 32", &full), ("read, 4,096 lines over 64 × 1", &every.bytes()), ("read, plan A", &small)]
     {
         row(name, 1, &|calls| {
-            black_box(calls.read(black_box(plan), &mut [0; 3]));
+            black_box(calls.read(black_box(plan), &mut [0; COUNTS]));
         });
     }
 
@@ -180,37 +187,37 @@ fn main() {
     late_loop.lines.push((31, 1, 31));
     let plans = [
         ("dense, 4,096 lines downhill over 64 × 32", full.clone()),
-        ("dense, 4,096 lines downhill over 64 × 4", downhill(&mut r, 4, 4096).bytes()),
+        ("dense, 4,096 lines downhill over 64 × 4", downhill(&mut r, 4, MAX_LINES).bytes()),
         ("dense, 4,096 lines from half to half over 64 × 4", draft(64, 4, &[7], &across).bytes()),
         ("sparse, 200 lines downhill over 64 × 4", downhill(&mut r, 4, 200).bytes()),
-        ("sparse, deterministic over 64 × 32", deterministic(&mut r, 32).bytes()),
+        ("sparse, deterministic over 64 × 32", deterministic(&mut r, MAX_CODES).bytes()),
         ("ladder of 31 over 63 × 2", ladder(31, 2).bytes()),
         ("long, two counters 9 × 9 over 18 × 4", odometer(9, 9).bytes()),
         ("long, two counters 9 × 9 in 64 × 32", full_size(odometer(9, 9)).bytes()),
         ("long, two counters 32 × 32 over 64 × 4", odometer(32, 32).bytes()),
         ("unpredictable, all 4,096 lines over 64 × 1", every.bytes()),
-        ("unpredictable, 4,096 random lines over 64 × 32", any_lines(&mut r, 32, 4096).bytes()),
+        ("unpredictable, 4,096 random lines over 64 × 32", any_lines(&mut r, MAX_CODES, MAX_LINES).bytes()),
         ("unpredictable, 150 random lines over 64 × 2", any_lines(&mut r, 2, 150).bytes()),
         ("unpredictable, loop after 1,023 codes, 64 × 4", late_loop.bytes()),
     ];
     for (name, plan) in &plans {
-        let reply = agreed(&|calls| calls.look_ahead(plan, &mut [0; 4096], &mut [0; 6]));
+        let reply = agreed(&|calls| calls.look_ahead(plan, &mut [0; LETTERS], &mut [0; EVIDENCE]));
         row(&format!("count, {name}: {}", says(reply)), 1, &|calls| {
-            black_box(calls.look_ahead(black_box(plan), &mut [0; 4096], &mut [0; 6]));
+            black_box(calls.look_ahead(black_box(plan), &mut [0; LETTERS], &mut [0; EVIDENCE]));
         });
     }
     for (name, plan) in [&plans[0], &plans[3], &plans[8]] {
-        let mut table = vec![0; 2052];
-        let reply = agreed(&|calls| calls.prepare(plan, &mut table.clone(), &mut [0; 4096], &mut [0; 6]));
+        let mut table = vec![0; table::length(MAX_STAKES, MAX_CODES)];
+        let reply = agreed(&|calls| calls.prepare(plan, &mut table.clone(), &mut [0; LETTERS], &mut [0; EVIDENCE]));
         let table = std::cell::RefCell::new(&mut table);
         row(&format!("prepare, {name}: {}", says(reply)), 1, &|calls| {
-            black_box(calls.prepare(black_box(plan), &mut table.borrow_mut(), &mut [0; 4096], &mut [0; 6]));
+            black_box(calls.prepare(black_box(plan), &mut table.borrow_mut(), &mut [0; LETTERS], &mut [0; EVIDENCE]));
         });
     }
 
     let walks = [
         ("k 0, 64 × 4", deterministic(&mut r, 4), 1_000_000),
-        ("k 0, 64 × 32", deterministic(&mut r, 32), 1_000_000),
+        ("k 0, 64 × 32", deterministic(&mut r, MAX_CODES), 1_000_000),
         ("k 1, 2 × 4", odometer(1, 1), 1_000_000),
         ("k 1, 64 × 32", full_size(odometer(1, 1)), 1_000_000),
         ("k 8, 6 × 4", odometer(2, 4), 1_000_000),
@@ -221,10 +228,10 @@ fn main() {
     ];
     for (name, plan, length) in &walks {
         let table = table_of(plan);
-        let k = table[2] as usize;
+        let k = table[table::K] as usize;
         let word = walk_on(&mut r, &table, *length);
         let feed = |calls: &dyn Calls| {
-            let (mut rec, mut position, mut sum) = (vec![0; 8 + k], [0], 0u32);
+            let (mut rec, mut position, mut sum) = (vec![0; record::length(k)], [0; POSITION], 0u32);
             calls.open(&table, &mut rec, &mut position);
             for &code in &word {
                 let reply = calls.feed(black_box(&table), &mut rec, code as u32, &mut position);
@@ -243,7 +250,7 @@ fn main() {
         let word = walk_on(&mut r, &table, *length);
         let sets = std::cell::RefCell::new(vec![0; word.len() + 1]);
         row(&format!("whole walk, a leg, {name}"), word.len(), &|calls| {
-            black_box(calls.walk(black_box(&table), &word, &mut sets.borrow_mut(), &mut [0]));
+            black_box(calls.walk(black_box(&table), &word, &mut sets.borrow_mut(), &mut [0; LENGTH]));
         });
     }
 }

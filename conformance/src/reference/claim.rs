@@ -1,16 +1,17 @@
 //! Evidence under 15: the check of a claim, and true claims to try it on (which evidence is given is free, so these are only examples).
 
+use super::forms::{evidence_length, EVIDENCE};
 use super::lookahead::{Pairs, Shared};
 use super::plan::Plan;
 use super::walk::reach;
-use super::{members, Stakes};
+use super::{members, only};
 
 /// The check of a claim: six numbers (the critical set's stake and code, stakes s and t, the lengths of lead-in and loop) and codes.
 pub fn holds(plan: &Plan, claim: &[u32], letters: &[u8]) -> bool {
-    if claim.len() < 6 {
+    // numbers past the sixth are not read
+    let &[stake, code, s, t, lead, turn, ..] = claim else {
         return false;
-    }
-    let [stake, code, s, t, lead, turn] = [claim[0], claim[1], claim[2], claim[3], claim[4], claim[5]];
+    };
     // the critical set, and stakes s < t of it
     let Some(set) = plan.named(stake, code) else {
         return false;
@@ -21,7 +22,7 @@ pub fn holds(plan: &Plan, claim: &[u32], letters: &[u8]) -> bool {
     }
     // the loop has at least one code, and both lengths together are at most n × n
     let (lead, turn) = (lead as u128, turn as u128);
-    if turn < 1 || lead + turn > (plan.n * plan.n) as u128 {
+    if turn < 1 || lead + turn > evidence_length(plan.n) as u128 {
         return false;
     }
     // the claim's codes must not end before its lengths do; codes past the lengths are not read
@@ -34,21 +35,17 @@ pub fn holds(plan: &Plan, claim: &[u32], letters: &[u8]) -> bool {
         return false;
     }
     // some stake is reached from s by the lead-in and led back to itself by the loop, and the same holds for t
+    let (lead_in, round) = word.split_at(lead);
     let goes_round = |from: u32| {
-        let mut only: Stakes = vec![false; plan.n];
-        only[from as usize] = true;
-        members(&reach(plan, &only, &word[..lead])).into_iter().any(|x| {
-            let mut at_x: Stakes = vec![false; plan.n];
-            at_x[x] = true;
-            reach(plan, &at_x, &word[lead..])[x]
-        })
+        let reached = members(&reach(plan, &only(plan.n, from as usize), lead_in));
+        reached.into_iter().any(|x| reach(plan, &only(plan.n, x), round)[x])
     };
     goes_round(s) && goes_round(t)
 }
 
 /// A true claim for a plan without k, by a walk over pairs that share endless words until one pair comes again; `choose` picks one of
 /// so many ways to go on.
-pub fn example(plan: &Plan, choose: &mut dyn FnMut(usize) -> usize) -> Option<([u32; 6], Vec<u8>)> {
+pub fn example(plan: &Plan, choose: &mut dyn FnMut(usize) -> usize) -> Option<([u32; EVIDENCE], Vec<u8>)> {
     let mut pairs = Pairs::new(plan);
     let mut rivals = Vec::new();
     for (name, set) in plan.critical_sets() {

@@ -3,6 +3,7 @@
 
 pub mod calls;
 pub mod claim;
+mod forms;
 pub mod lookahead;
 pub mod plan;
 pub mod record;
@@ -36,6 +37,11 @@ pub fn size(set: &[bool]) -> usize {
 
 pub fn members(set: &[bool]) -> Vec<usize> {
     (0..set.len()).filter(|&s| set[s]).collect()
+}
+
+/// The set of one stake.
+pub fn only(n: usize, stake: usize) -> Stakes {
+    (0..n).map(|s| s == stake).collect()
 }
 
 /// "A set is a 64-bit number, bit s for stake s."

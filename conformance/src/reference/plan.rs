@@ -1,5 +1,6 @@
 //! Plan bytes: refusals 1 to 7 in their order, and the plan that the bytes mean.
 
+use super::forms::{number, EDITION, HEADER, LINE, MOST_CODES, MOST_LINES, MOST_STAKES, STARTS};
 use super::{refuse, Refusal, Stakes};
 use std::collections::BTreeSet;
 
@@ -32,9 +33,9 @@ impl Plan {
         set
     }
 
-    /// Every critical set with its name: the starts as (255, 0), then the forks that are not empty.
+    /// Every critical set with its name: the starts as stake 255 and code 0, then the forks that are not empty.
     pub fn critical_sets(&self) -> Vec<((u32, u32), Stakes)> {
-        let mut sets = vec![((255, 0), self.starts.clone())];
+        let mut sets = vec![(STARTS, self.starts.clone())];
         for stake in 0..self.n {
             for code in 0..self.m {
                 if self.lines[code].iter().any(|&(from, _)| from == stake) {
@@ -47,7 +48,7 @@ impl Plan {
 
     /// The set that a caller names by stake and code, 255 and 0 being the starts; none if a number is off the plan.
     pub fn named(&self, stake: u32, code: u32) -> Option<Stakes> {
-        if stake == 255 && code == 0 {
+        if (stake, code) == STARTS {
             return Some(self.starts.clone());
         }
         if (stake as usize) < self.n && (code as usize) < self.m {
@@ -60,47 +61,46 @@ impl Plan {
 /// Reading a plan: n, m, p and e, and what the bytes mean.
 pub fn read(bytes: &[u8]) -> Result<Read, Refusal> {
     // 1: fewer than 16 bytes, or total not the byte count
-    if bytes.len() < 16 {
+    if bytes.len() < HEADER {
         return refuse(1, "fewer than 16 bytes");
     }
-    let number = |place: usize| bytes[2 * place] as usize + 256 * bytes[2 * place + 1] as usize;
-    let (edition, n, m, p, e) = (number(0), number(1), number(2), number(3), number(4));
-    let (starts_at, lines_at, total) = (number(5), number(6), number(7));
+    // "in order: edition, n, m, count of starts p, count of lines e, offset of starts, offset of lines, total length"
+    let [edition, n, m, p, e, starts_at, lines_at, total] = std::array::from_fn(|place| number(bytes, place));
     if total != bytes.len() {
         return refuse(1, "total not the byte count");
     }
     // 2: edition not 1
-    if edition != 1 {
+    if edition != EDITION {
         return refuse(2, "edition");
     }
     // 3: a count out of range
-    if !(1..=64).contains(&n) {
+    if !(1..=MOST_STAKES).contains(&n) {
         return refuse(3, "n out of range");
     }
-    if !(1..=32).contains(&m) {
+    if !(1..=MOST_CODES).contains(&m) {
         return refuse(3, "m out of range");
     }
     if p > n {
         return refuse(3, "p out of range");
     }
-    if e > 4096 {
+    if e > MOST_LINES {
         return refuse(3, "e out of range");
     }
     // 4: a part misplaced. Each part, an empty one too, begins at 16 or later and ends no later than the total.
-    if starts_at < 16 {
+    if starts_at < HEADER {
         return refuse(4, "starts before 16");
     }
     if starts_at + p > total {
         return refuse(4, "starts past the total");
     }
-    if lines_at < 16 {
+    if lines_at < HEADER {
         return refuse(4, "lines before 16");
     }
-    if lines_at + 3 * e > total {
+    if lines_at + LINE * e > total {
         return refuse(4, "lines past the total");
     }
     // Two non-empty parts don't overlap: no byte belongs to both. An empty part has no byte.
-    let part_of_lines = lines_at..lines_at + 3 * e;
+    let part_of_lines = lines_at..lines_at + LINE * e;
     if (starts_at..starts_at + p).any(|place| part_of_lines.contains(&place)) {
         return refuse(4, "parts overlap");
     }
@@ -119,7 +119,7 @@ pub fn read(bytes: &[u8]) -> Result<Read, Refusal> {
     // 6: a line's number not below its count
     let triples: Vec<(usize, usize, usize)> = (0..e)
         .map(|line| {
-            let place = lines_at + 3 * line;
+            let place = lines_at + LINE * line;
             (bytes[place] as usize, bytes[place + 1] as usize, bytes[place + 2] as usize)
         })
         .collect();

@@ -1,8 +1,9 @@
 //! Walks leg by leg: the record as its fields, refusal 10 rule by rule, opening, a leg and ending.
 
+use super::forms::{record_length, HELD_CODES, MOST_LEGS, NONE_BOOKED};
 use super::plan::Plan;
 use super::walk::possible;
-use super::{members, refuse, size, Refusal, Stakes};
+use super::{members, only, refuse, size, Refusal, Stakes};
 
 #[derive(Clone, Debug, PartialEq, Eq)]
 pub struct Record {
@@ -18,13 +19,9 @@ pub struct Record {
 impl Record {
     /// From at least 8 + k bytes.
     pub fn from_bytes(bytes: &[u8], k: usize) -> Record {
-        Record {
-            legs: u32::from_le_bytes([bytes[0], bytes[1], bytes[2], bytes[3]]),
-            booked: bytes[4],
-            zero: bytes[5],
-            held: u16::from_le_bytes([bytes[6], bytes[7]]),
-            codes: bytes[8..8 + k].to_vec(),
-        }
+        let &[a, b, c, d, booked, zero, low, high] = &bytes[..HELD_CODES] else { unreachable!("as many bytes") };
+        let (legs, held) = (u32::from_le_bytes([a, b, c, d]), u16::from_le_bytes([low, high]));
+        Record { legs, booked, zero, held, codes: bytes[HELD_CODES..record_length(k)].to_vec() }
     }
 
     pub fn to_bytes(&self) -> Vec<u8> {
@@ -43,7 +40,7 @@ impl Record {
 /// The base of a record that keeps the rules, or 10.
 fn base(plan: &Plan, k: usize, record: &Record) -> Result<Stakes, Refusal> {
     let legs = record.legs as usize;
-    if legs > 1_000_000 {
+    if legs > MOST_LEGS {
         return refuse(10, "more than 1,000,000 legs");
     }
     if record.zero != 0 {
@@ -52,7 +49,7 @@ fn base(plan: &Plan, k: usize, record: &Record) -> Result<Stakes, Refusal> {
     if record.held as usize != legs.min(k) {
         return refuse(10, "the held count");
     }
-    if legs < k && record.booked != 255 {
+    if legs < k && record.booked != NONE_BOOKED {
         return refuse(10, "a stake before the first booking");
     }
     if legs >= k && record.booked as usize >= plan.n {
@@ -64,7 +61,7 @@ fn base(plan: &Plan, k: usize, record: &Record) -> Result<Stakes, Refusal> {
     if record.held_codes().iter().any(|&code| code as usize >= plan.m) {
         return refuse(10, "a held code not below m");
     }
-    let base = if legs < k { plan.starts.clone() } else { (0..plan.n).map(|s| s == record.booked as usize).collect() };
+    let base = if legs < k { plan.starts.clone() } else { only(plan.n, record.booked as usize) };
     if size(&possible(plan, &base, record.held_codes())[0]) == 0 {
         return refuse(10, "the held codes can't be walked from the base");
     }
@@ -78,7 +75,7 @@ pub fn open(plan: &Plan, k: usize) -> Result<(Booking, Record), Refusal> {
     if size(&plan.starts) == 0 {
         return refuse(13, "no starts");
     }
-    let mut record = Record { legs: 0, booked: 255, zero: 0, held: 0, codes: vec![0; k] };
+    let mut record = Record { legs: 0, booked: NONE_BOOKED, zero: 0, held: 0, codes: vec![0; k] };
     if k > 0 {
         return Ok((None, record));
     }
@@ -92,7 +89,7 @@ pub fn open(plan: &Plan, k: usize) -> Result<(Booking, Record), Refusal> {
 
 pub fn feed(plan: &Plan, k: usize, record: &Record, code: u32) -> Result<(Booking, Record), Refusal> {
     let base = base(plan, k, record)?;
-    if record.legs == 1_000_000 {
+    if record.legs as usize == MOST_LEGS {
         return refuse(11, "a leg beyond 1,000,000");
     }
     if code as usize >= plan.m {

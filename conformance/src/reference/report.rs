@@ -1,28 +1,24 @@
 //! The report, from whole walks: what is booked and what is open is read off the possible stakes of the walk that the legs make.
 
+use super::forms::{number, HEADER, MOST_LEGS, TOTAL};
 use super::lookahead::look_ahead;
 use super::plan::read;
 use super::walk::{possible, step};
-use super::{members, size};
+use super::{group, members, size};
 
 /// "number and group, author, caller or logger"
 pub fn refused(number: u32) -> String {
-    let group = match number {
-        1..=7 | 15 => "author",
-        8..=10 | 14 => "caller",
-        11..=13 => "logger",
-        _ => unreachable!("no such refusal"),
-    };
-    format!("refused {number} {group}\n")
+    let name = ["author", "caller", "logger"][group(number) as usize - 1];
+    format!("refused {number} {name}\n")
 }
 
 pub fn report(input: &[u8]) -> String {
     // refusal 1 here: fewer than 16 bytes, a total below 16, or fewer bytes than the total
-    if input.len() < 16 {
+    if input.len() < HEADER {
         return refused(1);
     }
-    let total = input[14] as usize + 256 * input[15] as usize;
-    if total < 16 || input.len() < total {
+    let total = number(input, TOTAL);
+    if total < HEADER || input.len() < total {
         return refused(1);
     }
     let (plan, p, e) = match read(&input[..total]) {
@@ -42,7 +38,7 @@ pub fn report(input: &[u8]) -> String {
     let mut taken = Vec::new();
     let mut ended = String::new();
     for &code in &input[total..] {
-        let refusal = if taken.len() == 1_000_000 {
+        let refusal = if taken.len() == MOST_LEGS {
             11
         } else if code as usize >= plan.m {
             12

@@ -1,7 +1,8 @@
 //! Words over a plan: what they reach, from where they can be walked, whole walks, verdicts, and the plain walk of document 01.
 
+use super::forms::{MOST_LEGS, STARTS};
 use super::plan::Plan;
-use super::{members, refuse, size, Refusal, Stakes};
+use super::{members, only, refuse, size, Refusal, Stakes};
 
 /// The stakes that a code leads to from a set.
 pub fn step(plan: &Plan, from: &[bool], code: u8) -> Stakes {
@@ -80,21 +81,20 @@ pub struct Verdict {
 
 pub fn verdict(plan: &Plan, stake: u32, code: u32, word: &[u8]) -> Result<Verdict, Refusal> {
     let Some(set) = plan.named(stake, code) else {
-        return refuse(12, if stake == 255 { "255 with a code other than 0" } else { "the set's name off the plan" });
+        return refuse(12, if stake == STARTS.0 { "255 with a code other than 0" } else { "the set's name off the plan" });
     };
     if word.iter().any(|&code| code as usize >= plan.m) {
         return refuse(12, "a code of the word not below m");
     }
-    let only = |t: usize| -> Stakes { (0..plan.n).map(|s| s == t).collect() };
     // the set of t in T with w in R(t)
     let walkers =
-        |word: &[u8]| -> Stakes { (0..plan.n).map(|t| set[t] && longest_beginning(plan, &only(t), word) == word.len()).collect() };
+        |word: &[u8]| -> Stakes { (0..plan.n).map(|t| set[t] && longest_beginning(plan, &only(plan.n, t), word) == word.len()).collect() };
     let can_walk = walkers(word);
     // that set has one member and no shorter prefix of w has that
     let is_minimal_selector = size(&can_walk) == 1 && (0..word.len()).all(|length| size(&walkers(&word[..length])) != 1);
     // w in R(t) and in another R of T, and no longer word beginning with w in R(t)
     let goes_no_further = |t: usize| {
-        let ends = reach(plan, &only(t), word);
+        let ends = reach(plan, &only(plan.n, t), word);
         (0..plan.m).all(|code| size(&step(plan, &ends, code as u8)) == 0)
     };
     let maximal_nonselector = (0..plan.n).map(|t| can_walk[t] && size(&can_walk) >= 2 && goes_no_further(t)).collect();
@@ -117,7 +117,7 @@ pub fn plain_walk(plan: &Plan, k: usize, offered: &[u32]) -> (Reply, Vec<Reply>,
     let mut replies = Vec::new();
     let mut bookings = Vec::new();
     for &code in offered {
-        if taken.len() == 1_000_000 {
+        if taken.len() == MOST_LEGS {
             replies.push(Reply::Refused(11));
             continue;
         }

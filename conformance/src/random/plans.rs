@@ -1,0 +1,229 @@
+//! Plans that pass 1 to 7, of many sizes and densities, as drafts.
+
+use super::Random;
+use crate::families::{all_pairs, draft, ladder, odometer, theorem_5, unary_chain, Draft, Line};
+use crate::forms::{MAX_CODES, MAX_LINES, MAX_STAKES};
+
+/// How many stakes: mostly few, so that every shape is met, and sometimes all 64.
+pub fn stakes(r: &mut Random) -> usize {
+    match r.below(20) {
+        0..=7 => r.among(1, 5),
+        8..=14 => r.among(4, 12),
+        15..=17 => r.among(10, 40),
+        18 => r.among(33, MAX_STAKES),
+        _ => MAX_STAKES,
+    }
+}
+
+pub fn codes(r: &mut Random) -> usize {
+    match r.below(10) {
+        0..=1 => 1,
+        2..=4 => 2,
+        5..=7 => r.among(2, 6),
+        8 => r.among(5, 20),
+        _ => r.among(20, MAX_CODES),
+    }
+}
+
+fn some_starts(r: &mut Random, n: usize, most: usize) -> Vec<u8> {
+    let mut all: Vec<u8> = (0..n as u8).collect();
+    r.shuffle(&mut all);
+    all.truncate(most.min(n));
+    all
+}
+
+/// Up to `wanted` different lines, each made by `make`.
+fn different(r: &mut Random, wanted: usize, mut make: impl FnMut(&mut Random) -> Option<Line>) -> Vec<Line> {
+    let mut seen = std::collections::HashSet::new();
+    let mut lines = Vec::new();
+    for _ in 0..2 * wanted {
+        if lines.len() == wanted.min(MAX_LINES) {
+            break;
+        }
+        if let Some(line) = make(r) {
+            if seen.insert(line) {
+                lines.push(line);
+            }
+        }
+    }
+    lines
+}
+
+/// Any lines at all, from none to many out of each stake by each code.
+fn anything(r: &mut Random) -> Draft {
+    let (n, m) = (stakes(r), codes(r));
+    let per_cent = r.pick(&[10, 30, 50, 70, 90, 110, 130, 200, 400]);
+    let wanted = (n * m * per_cent / 100).max(r.below(3)).min(n * m * n);
+    let lines = different(r, wanted, |r| Some((r.below(n) as u8, r.below(m) as u8, r.below(n) as u8)));
+    let starts = r.pick(&[0, 1, 1, 1, 1, 2, 2, 3, 5, MAX_STAKES]);
+    let starts = some_starts(r, n, starts);
+    Draft { n, m, starts, lines }
+}
+
+/// Lines lead on to later stakes only, so that a k always exists.
+fn downhill(r: &mut Random) -> Draft {
+    let (n, m) = (stakes(r).max(2), codes(r));
+    let reach = r.pick(&[1, 2, 3, 5, 10, MAX_STAKES - 1]);
+    let wanted = n * r.among(1, m.min(6)) * r.pick(&[1, 1, 2, 3]);
+    let lines = different(r, wanted, |r| {
+        let from = r.below(n - 1);
+        Some((from as u8, r.below(m) as u8, r.among(from + 1, (from + reach).min(n - 1)) as u8))
+    });
+    let starts = r.among(1, 4);
+    let starts = some_starts(r, n.min(4), starts);
+    Draft { n, m, starts, lines }
+}
+
+/// One line out of each stake by each code at most, then a few forks whose other branch dies out.
+fn forks_that_die(r: &mut Random) -> Draft {
+    let (n, m) = (stakes(r).max(4), codes(r));
+    let body = r.among(2, n - 1);
+    let mut lines = Vec::new();
+    for from in 0..body {
+        for code in 0..m {
+            if r.percent(70) {
+                lines.push((from as u8, code as u8, r.below(body) as u8));
+            }
+        }
+    }
+    // stakes from `body` on form chains that lead to later ones
+    for from in body..n - 1 {
+        for code in 0..m {
+            if r.percent(50) {
+                lines.push((from as u8, code as u8, r.among(from + 1, n - 1) as u8));
+            }
+        }
+    }
+    for _ in 0..r.below(4) {
+        let line = (r.below(body) as u8, r.below(m) as u8, r.among(body, n - 1) as u8);
+        if !lines.contains(&line) {
+            lines.push(line);
+        }
+    }
+    lines.truncate(MAX_LINES);
+    Draft { n, m, starts: some_starts(r, body, 1), lines }
+}
+
+/// Theorem 5's construction over a random sequence of pairs, whole or cut short, sometimes with a chain of stakes behind it.
+fn pair_sequence(r: &mut Random) -> Draft {
+    let n = r.among(1, 8);
+    let mut pairs = all_pairs(n as u8);
+    r.shuffle(&mut pairs);
+    for pair in &mut pairs {
+        if r.percent(50) {
+            *pair = (pair.1, pair.0);
+        }
+    }
+    if r.percent(40) && !pairs.is_empty() {
+        pairs.truncate(r.among(1, pairs.len()));
+    }
+    theorem_5(n, &pairs)
+}
+
+fn counters(r: &mut Random) -> Draft {
+    match r.below(12) {
+        0..=6 => odometer(r.among(1, 5), r.among(1, 5)),
+        7..=10 => odometer(r.among(2, 12), r.among(2, 12)),
+        _ => odometer(r.among(2, 32), r.among(2, 32)),
+    }
+}
+
+/// Codes that permute the stakes: shared words never end, and loops may exchange the two stakes.
+fn permutations(r: &mut Random) -> Draft {
+    let (n, m) = (r.among(2, 9), r.among(1, 3));
+    let mut lines = Vec::new();
+    for code in 0..m {
+        let mut to: Vec<u8> = (0..n as u8).collect();
+        r.shuffle(&mut to);
+        lines.extend((0..n).map(|from| (from as u8, code as u8, to[from])).filter(|_| r.percent(92)));
+    }
+    let count = r.among(1, 3);
+    Draft { n, m, starts: some_starts(r, n, count), lines }
+}
+
+/// Every plan of up to 3 stakes and 2 codes is likely to come up.
+fn tiny(r: &mut Random) -> Draft {
+    let (n, m) = (r.among(1, 3), r.among(1, 2));
+    let mut lines = Vec::new();
+    let chance = r.pick(&[15, 30, 50]);
+    for from in 0..n {
+        for code in 0..m {
+            for to in 0..n {
+                if r.percent(chance) {
+                    lines.push((from as u8, code as u8, to as u8));
+                }
+            }
+        }
+    }
+    let starts = (0..n as u8).filter(|_| r.percent(50)).collect();
+    Draft { n, m, starts, lines }
+}
+
+/// Full size: 64 stakes, many codes, up to 4,096 lines.
+fn large(r: &mut Random) -> Draft {
+    let m = r.among(1, MAX_CODES);
+    let wanted = r.pick(&[64, 500, 2000, MAX_LINES]);
+    let downhill = r.percent(60);
+    let lines = different(r, wanted, |r| {
+        let (a, b) = (r.below(MAX_STAKES), r.below(MAX_STAKES));
+        if downhill && a >= b {
+            return None;
+        }
+        Some((a as u8, r.below(m) as u8, b as u8))
+    });
+    let starts = r.pick(&[0, 1, 2, MAX_STAKES]);
+    Draft { n: MAX_STAKES, m, starts: some_starts(r, MAX_STAKES, starts), lines }
+}
+
+/// The stakes under other numbers, and the lines in another order.
+fn renumber(r: &mut Random, plan: &mut Draft) {
+    let mut name: Vec<u8> = (0..plan.n as u8).collect();
+    r.shuffle(&mut name);
+    plan.starts.iter_mut().for_each(|s| *s = name[*s as usize]);
+    plan.lines.iter_mut().for_each(|line| *line = (name[line.0 as usize], line.1, name[line.2 as usize]));
+    r.shuffle(&mut plan.starts);
+    r.shuffle(&mut plan.lines);
+}
+
+/// A plan that passes 1 to 7.
+pub fn plan(r: &mut Random) -> Draft {
+    let mut plan = match r.below(100) {
+        0..=19 => anything(r),
+        20..=39 => downhill(r),
+        40..=54 => forks_that_die(r),
+        55..=62 => pair_sequence(r),
+        63..=74 => counters(r),
+        75..=80 => permutations(r),
+        81..=92 => tiny(r),
+        93..=94 => unary_chain(r.among(2, MAX_STAKES)),
+        95..=97 => ladder(r.among(1, 31), r.among(1, 3)),
+        98 => large(r),
+        _ => draft(r.among(1, MAX_STAKES), r.among(1, MAX_CODES), &[], &[]),
+    };
+    // near the border: a line more or less, another start, room for more stakes and codes
+    if r.percent(25) && plan.lines.len() < MAX_LINES {
+        let line = (r.below(plan.n) as u8, r.below(plan.m) as u8, r.below(plan.n) as u8);
+        if !plan.lines.contains(&line) {
+            plan.lines.push(line);
+        }
+    }
+    if r.percent(15) && !plan.lines.is_empty() {
+        plan.lines.swap_remove(r.below(plan.lines.len()));
+    }
+    if r.percent(8) {
+        let s = r.below(plan.n) as u8;
+        if !plan.starts.contains(&s) {
+            plan.starts.push(s);
+        }
+    }
+    if r.percent(15) {
+        plan.n = r.pick(&[plan.n + 1, plan.n + 2, MAX_STAKES]).min(MAX_STAKES);
+    }
+    if r.percent(15) {
+        plan.m = r.pick(&[plan.m + 1, MAX_CODES]).min(MAX_CODES);
+    }
+    if r.percent(70) {
+        renumber(r, &mut plan);
+    }
+    plan
+}

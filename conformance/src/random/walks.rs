@@ -1,0 +1,84 @@
+//! Words and legs over a plan.
+
+use super::Random;
+use crate::forms::MAX_STAKES;
+use crate::reference::plan::Plan;
+use crate::reference::size;
+use crate::reference::walk::step;
+
+/// The codes that can be walked from a set.
+pub fn ways(plan: &Plan, set: &[bool]) -> Vec<u8> {
+    (0..plan.m as u8).filter(|&code| size(&step(plan, set, code)) > 0).collect()
+}
+
+/// A word over the plan: mostly codes that can be walked on from where it is, rarely others.
+pub fn word(r: &mut Random, plan: &Plan, from: &[bool], length: usize) -> Vec<u8> {
+    let stray = r.pick(&[0, 0, 2, 10]);
+    let beyond = r.pick(&[0, 0, 0, 1]);
+    let mut word = Vec::new();
+    let mut set = from.to_vec();
+    for _ in 0..length {
+        let mut code = r.below(plan.m) as u8;
+        if r.percent(beyond) {
+            word.push(r.pick(&[plan.m as u8, 255, 200]));
+            continue;
+        }
+        if !r.percent(stray) {
+            let ways = ways(plan, &set);
+            if !ways.is_empty() {
+                code = r.pick(&ways);
+            }
+        }
+        word.push(code);
+        let next = step(plan, &set, code);
+        if size(&next) == 0 && r.percent(50) {
+            break;
+        }
+        set = next;
+    }
+    word
+}
+
+/// Legs offered one after the other: refused ones (a stray code, a code off the plan) among those that can be walked.
+pub fn legs(r: &mut Random, plan: &Plan, length: usize) -> Vec<u8> {
+    let stray = r.pick(&[0, 3, 15]);
+    let beyond = r.pick(&[0, 1, 5]);
+    let mut legs = Vec::new();
+    let mut set = plan.starts.clone();
+    let mut dead_ends = 0;
+    while legs.len() < length && dead_ends < 4 {
+        let ways = ways(plan, &set);
+        let code = if r.percent(beyond) {
+            r.pick(&[plan.m as u8, 255, MAX_STAKES as u8])
+        } else if ways.is_empty() || r.percent(stray) {
+            r.below(plan.m) as u8
+        } else {
+            r.pick(&ways)
+        };
+        dead_ends += ways.is_empty() as usize;
+        legs.push(code);
+        if ways.contains(&code) {
+            set = step(plan, &set, code);
+        }
+    }
+    legs
+}
+
+/// A code that is none of the plan's: from m on, and those of which a part of the bits would be one.
+pub fn stray_code(r: &mut Random, m: usize) -> u32 {
+    let low = r.below(m) as u32;
+    r.pick(&[m as u32, MAX_STAKES as u32, 255, 256, 257, 256 + low, 65_535, 65_536, 65_536 + low, 1 << 24, (1 << 31) + low, u32::MAX])
+}
+
+/// The legs as a caller offers them, 32-bit numbers, with codes that are none of the plan's among them.
+pub fn offered(r: &mut Random, legs: &[u8], m: usize) -> Vec<u32> {
+    let strays = r.pick(&[0, 1, 4]);
+    let mut offered = Vec::new();
+    for &leg in legs {
+        if r.percent(strays) {
+            offered.push(stray_code(r, m));
+        }
+        offered.push(leg as u32);
+    }
+    offered
+}
