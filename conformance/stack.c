@@ -12,15 +12,6 @@
 #include <string.h>
 #include <ucontext.h>
 
-enum { READ, PREPARE, LOOK_AHEAD, COUNT, CHECK, WALK, JUDGE, OPEN, FEED, FINISH, GROUP, CALLS };
-
-static const char *const names[CALLS] = {"gawherino_read", "gawherino_prepare", "gawherino_look_ahead", "gawherino_count",
-                                         "gawherino_check", "gawherino_walk", "gawherino_judge", "gawherino_open",
-                                         "gawherino_feed", "gawherino_finish", "gawherino_group"};
-static const size_t said[CALLS] = {GAWHERINO_STACK_READ, GAWHERINO_STACK_PREPARE, GAWHERINO_STACK_LOOK_AHEAD, GAWHERINO_STACK_COUNT,
-                                   GAWHERINO_STACK_CHECK, GAWHERINO_STACK_WALK, GAWHERINO_STACK_JUDGE, GAWHERINO_STACK_OPEN,
-                                   GAWHERINO_STACK_FEED, GAWHERINO_STACK_FINISH, GAWHERINO_STACK_GROUP};
-
 /* What is lent. */
 static uint8_t plan[65535];
 static size_t plan_len;
@@ -38,117 +29,57 @@ static uint8_t rec[GAWHERINO_MAX_RECORD];
 static uint32_t position[1];
 static uint32_t state, letter, answer;
 
-/* Each call, and beside it one of the same kind that does nothing. */
-static uint32_t no_read(const uint8_t *a, size_t b, uint32_t *c, size_t d)
-{
-    return (void)a, (void)b, (void)c, (void)d, 0;
-}
-static uint32_t no_prepare(const uint8_t *a, size_t b, uint64_t *c, size_t d, uint8_t *e, size_t f, uint32_t *g, size_t h)
-{
-    return (void)a, (void)b, (void)c, (void)d, (void)e, (void)f, (void)g, (void)h, 0;
-}
-static uint32_t no_look_ahead(const uint8_t *a, size_t b, uint8_t *c, size_t d, uint32_t *e, size_t f)
-{
-    return (void)a, (void)b, (void)c, (void)d, (void)e, (void)f, 0;
-}
-static uint32_t no_count(const uint8_t *a, size_t b)
-{
-    return (void)a, (void)b, 0;
-}
-static uint32_t no_check(const uint8_t *a, size_t b, const uint32_t *c, size_t d, const uint8_t *e, size_t f)
-{
-    return (void)a, (void)b, (void)c, (void)d, (void)e, (void)f, 0;
-}
-static uint32_t no_walk(const uint64_t *a, size_t b, const uint8_t *c, size_t d, uint64_t *e, size_t f, uint64_t *g, size_t h)
-{
-    return (void)a, (void)b, (void)c, (void)d, (void)e, (void)f, (void)g, (void)h, 0;
-}
-static uint32_t no_judge(const uint64_t *a, size_t b, uint32_t c, uint32_t d, const uint8_t *e, size_t f, uint64_t *g, size_t h)
-{
-    return (void)a, (void)b, (void)c, (void)d, (void)e, (void)f, (void)g, (void)h, 0;
-}
-static uint32_t no_open(const uint64_t *a, size_t b, uint8_t *c, size_t d, uint32_t *e, size_t f)
-{
-    return (void)a, (void)b, (void)c, (void)d, (void)e, (void)f, 0;
-}
-static uint32_t no_feed(const uint64_t *a, size_t b, uint8_t *c, size_t d, uint32_t e, uint32_t *f, size_t g)
-{
-    return (void)a, (void)b, (void)c, (void)d, (void)e, (void)f, (void)g, 0;
-}
-static uint32_t no_finish(const uint64_t *a, size_t b, const uint8_t *c, size_t d, uint64_t *e, size_t f)
-{
-    return (void)a, (void)b, (void)c, (void)d, (void)e, (void)f, 0;
-}
-static uint32_t no_group(uint32_t a)
-{
-    return (void)a, 0;
-}
+/* Each call: its name, in capitals too, its parameters, and what it is lent here. */
+#define EACH(X) \
+    X(read, READ, (const uint8_t *a, size_t b, uint32_t *c, size_t d), (plan, plan_len, counts, GAWHERINO_COUNTS)) \
+    X(prepare, PREPARE, (const uint8_t *a, size_t b, uint64_t *c, size_t d, uint8_t *e, size_t f, uint32_t *g, size_t h), \
+      (plan, plan_len, table, table_len, letters, letters_len, evidence, GAWHERINO_EVIDENCE)) \
+    X(look_ahead, LOOK_AHEAD, (const uint8_t *a, size_t b, uint8_t *c, size_t d, uint32_t *e, size_t f), \
+      (plan, plan_len, letters, letters_len, evidence, GAWHERINO_EVIDENCE)) \
+    X(count, COUNT, (const uint8_t *a, size_t b), (plan, plan_len)) \
+    X(check, CHECK, (const uint8_t *a, size_t b, const uint32_t *c, size_t d, const uint8_t *e, size_t f), \
+      (plan, plan_len, evidence, GAWHERINO_EVIDENCE, letters, letters_len)) \
+    X(walk, WALK, (const uint64_t *a, size_t b, const uint8_t *c, size_t d, uint64_t *e, size_t f, uint64_t *g, size_t h), \
+      (table, table_len, word, word_len, sets, word_len + 1, length, 1)) \
+    X(judge, JUDGE, (const uint64_t *a, size_t b, uint32_t c, uint32_t d, const uint8_t *e, size_t f, uint64_t *g, size_t h), \
+      (table, table_len, state, letter, word, word_len, sets, GAWHERINO_VERDICT)) \
+    X(open, OPEN, (const uint64_t *a, size_t b, uint8_t *c, size_t d, uint32_t *e, size_t f), \
+      (table, table_len, rec, GAWHERINO_MAX_RECORD, position, 1)) \
+    X(feed, FEED, (const uint64_t *a, size_t b, uint8_t *c, size_t d, uint32_t e, uint32_t *f, size_t g), \
+      (table, table_len, rec, GAWHERINO_MAX_RECORD, letter, position, 1)) \
+    X(finish, FINISH, (const uint64_t *a, size_t b, const uint8_t *c, size_t d, uint64_t *e, size_t f), \
+      (table, table_len, rec, GAWHERINO_MAX_RECORD, sets, GAWHERINO_MAX_SETS)) \
+    X(group, GROUP, (uint32_t a), (letter))
 
-static volatile int real;
+#define NUMBER(name, NAME, takes, lent) NAME,
+enum { EACH(NUMBER) CALLS };
 
-#define CALL(name) (real ? gawherino_##name : no_##name)
+#define TEXT(name, NAME, takes, lent) "gawherino_" #name,
+static const char *const names[CALLS] = {EACH(TEXT)};
+
+#define SAID(name, NAME, takes, lent) GAWHERINO_STACK_##NAME,
+static const size_t said[CALLS] = {EACH(SAID)};
+
+/* Beside each call one of the same kind that does nothing. */
+#pragma GCC diagnostic ignored "-Wunused-parameter"
+#define NOTHING(name, NAME, takes, lent) static uint32_t no_##name takes { return 0; }
+EACH(NOTHING)
 
 /* Runs one call on the painted stack. The pointer to it is volatile, so that no call is made part of its caller. */
 static int which;
+static volatile int real;
+
+#define RUN(name, NAME, takes, lent) \
+    case NAME: { \
+        uint32_t(*volatile call) takes = real ? gawherino_##name : no_##name; \
+        answer = call lent; \
+        break; \
+    }
 
 static void job(void)
 {
     switch (which) {
-    case READ: {
-        uint32_t (*volatile call)(const uint8_t *, size_t, uint32_t *, size_t) = CALL(read);
-        answer = call(plan, plan_len, counts, GAWHERINO_COUNTS);
-        break;
-    }
-    case PREPARE: {
-        uint32_t (*volatile call)(const uint8_t *, size_t, uint64_t *, size_t, uint8_t *, size_t, uint32_t *, size_t) = CALL(prepare);
-        answer = call(plan, plan_len, table, table_len, letters, letters_len, evidence, GAWHERINO_EVIDENCE);
-        break;
-    }
-    case LOOK_AHEAD: {
-        uint32_t (*volatile call)(const uint8_t *, size_t, uint8_t *, size_t, uint32_t *, size_t) = CALL(look_ahead);
-        answer = call(plan, plan_len, letters, letters_len, evidence, GAWHERINO_EVIDENCE);
-        break;
-    }
-    case COUNT: {
-        uint32_t (*volatile call)(const uint8_t *, size_t) = CALL(count);
-        answer = call(plan, plan_len);
-        break;
-    }
-    case CHECK: {
-        uint32_t (*volatile call)(const uint8_t *, size_t, const uint32_t *, size_t, const uint8_t *, size_t) = CALL(check);
-        answer = call(plan, plan_len, evidence, GAWHERINO_EVIDENCE, letters, letters_len);
-        break;
-    }
-    case WALK: {
-        uint32_t (*volatile call)(const uint64_t *, size_t, const uint8_t *, size_t, uint64_t *, size_t, uint64_t *, size_t) = CALL(walk);
-        answer = call(table, table_len, word, word_len, sets, word_len + 1, length, 1);
-        break;
-    }
-    case JUDGE: {
-        uint32_t (*volatile call)(const uint64_t *, size_t, uint32_t, uint32_t, const uint8_t *, size_t, uint64_t *, size_t) = CALL(judge);
-        answer = call(table, table_len, state, letter, word, word_len, sets, 2);
-        break;
-    }
-    case OPEN: {
-        uint32_t (*volatile call)(const uint64_t *, size_t, uint8_t *, size_t, uint32_t *, size_t) = CALL(open);
-        answer = call(table, table_len, rec, GAWHERINO_MAX_RECORD, position, 1);
-        break;
-    }
-    case FEED: {
-        uint32_t (*volatile call)(const uint64_t *, size_t, uint8_t *, size_t, uint32_t, uint32_t *, size_t) = CALL(feed);
-        answer = call(table, table_len, rec, GAWHERINO_MAX_RECORD, letter, position, 1);
-        break;
-    }
-    case FINISH: {
-        uint32_t (*volatile call)(const uint64_t *, size_t, const uint8_t *, size_t, uint64_t *, size_t) = CALL(finish);
-        answer = call(table, table_len, rec, GAWHERINO_MAX_RECORD, sets, GAWHERINO_MAX_SETS);
-        break;
-    }
-    default: {
-        uint32_t (*volatile call)(uint32_t) = CALL(group);
-        answer = call(letter);
-        break;
-    }
+        EACH(RUN)
     }
 }
 

@@ -35,6 +35,8 @@ if [ "${1-}" = --write ]; then
 fi
 measure
 status=$?
+# none is left out
+diff <(cut -d ' ' -f 1 "$room/figures" | sort) <(grep -o '^uint32_t gawherino_[a-z0-9_]*' include/gawherino.h | cut -c 10- | sort) || status=1
 table | tee "$room/table"
 if [ "${1-}" = --write ]; then
     TABLE=$(cat "$room/table") perl -0pi -e 's/(<!-- stack\.sh -->\n).*?(<!-- end -->)/$1$ENV{TABLE}\n$2/s' docs/PERFORMANCE.md

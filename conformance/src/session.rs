@@ -99,7 +99,7 @@ impl Session {
         }
         let refused = (11..=13).filter(|&number| replies.contains(&Reply::Refused(number)));
         met.extend(refused.map(|number| format!("session with refused legs {number}")));
-        if self.legs.iter().zip(&replies).any(|(&leg, &reply)| leg > 255 && reply == Reply::Refused(12)) {
+        if self.legs.iter().zip(&replies).any(|(&leg, &reply)| leg > u8::MAX as u32 && reply == Reply::Refused(12)) {
             met.push("session with refused legs above 255".to_string());
         }
         if taken.len() == MAX_LEGS as usize {

@@ -76,6 +76,9 @@ fn smaller_given(name: &str, given: &Given) -> Vec<Given> {
         lists.into_iter().map(T::given).collect()
     }
     match (name, given) {
+        (_, &Given::Room(length)) => {
+            [length / 2, length.saturating_sub(1)].into_iter().filter(|&less| less < length).map(Given::Room).collect()
+        }
         ("plan", Given::U8(bytes)) => all(smaller_plans(bytes)),
         ("rec", _) => vec![],
         (_, Given::U8(list)) => all(without_a_piece(list)),

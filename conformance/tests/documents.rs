@@ -88,7 +88,6 @@ fn plans_a_to_h() {
         ("H", with_loop, Err(15)),
     ];
     for calls in common::everyone() {
-        let calls = calls.as_ref();
         for (name, plan, expected) in &rows {
             counted(calls, plan, *expected, name);
         }
@@ -114,7 +113,7 @@ fn plan_a_as_the_document_writes_it() {
     let bytes = [1, 0, 3, 0, 1, 0, 1, 0, 3, 0, 0x10, 0, 0x11, 0, 0x1A, 0, 0, 0, 0, 1, 1, 0, 1, 1, 0, 2];
     assert_eq!(plan_a().bytes(), bytes);
     for calls in common::everyone() {
-        let (_, table) = prepared(calls.as_ref(), &plan_a()).expect("k 1");
+        let (_, table) = prepared(calls, &plan_a()).expect("k 1");
         let (mut rec, mut position) = ([0xEE; 10], [77]);
         // the sample's legs 00 00 00 book 0, 1, 1 at 0, 1, 2 and leave 3 open with 1 and 2
         assert_eq!(calls.open(&table, &mut rec, &mut position), NOTHING);
@@ -221,7 +220,7 @@ fn calls_of_the_header() {
 fn codes_of_32_bits() {
     let plan = draft(3, 32, &[0], &[(0, 0, 1), (1, 31, 2), (2, 1, 2)]);
     for calls in common::everyone() {
-        let (_, table) = prepared(calls.as_ref(), &plan).expect("k 0");
+        let (_, table) = prepared(calls, &plan).expect("k 0");
         let (mut rec, mut position) = ([0; 8], [77]);
         assert_eq!(calls.open(&table, &mut rec, &mut position), 0);
         for (code, reply) in [(0, 1), (31, 2), (1, 2)] {
@@ -244,9 +243,9 @@ fn traps_of_document_01() {
     // C renumbered so that a round in place goes wrong
     let renumbered = draft(4, 2, &[2, 3], &[(2, 0, 1), (3, 0, 1), (1, 1, 0)]);
     for calls in common::everyone() {
-        counted(calls.as_ref(), &exchange, Err(15), "exchange");
-        counted(calls.as_ref(), &by_twos, Ok(2), "two by two");
-        counted(calls.as_ref(), &renumbered, Ok(3), "C renumbered");
+        counted(calls, &exchange, Err(15), "exchange");
+        counted(calls, &by_twos, Ok(2), "two by two");
+        counted(calls, &renumbered, Ok(3), "C renumbered");
     }
 }
 
@@ -255,7 +254,6 @@ fn traps_of_document_01() {
 fn examples_1_and_2() {
     let b = draft(3, 1, &[0], &[(0, 0, 1), (0, 0, 2)]);
     for calls in common::everyone() {
-        let calls = calls.as_ref();
         counted(calls, &plan_a(), Ok(1), "Fig. 1 (a)");
         counted(calls, &b, Ok(1), "Fig. 1 (b)");
         let (_, table) = prepared(calls, &plan_a()).expect("k 1");
@@ -278,7 +276,6 @@ fn examples_1_and_2() {
 fn examples_1_and_2_without_look_ahead() {
     let readings: [(&[Line], u64); 3] = [(&[(1, 0, 1)], 0b10), (&[(1, 0, 0)], 0b01), (&[(1, 0, 0), (1, 0, 1)], 0b11)];
     for calls in common::everyone() {
-        let calls = calls.as_ref();
         for (from_q, led_to) in readings {
             let c = draft(2, 1, &[0], &[&[(0, 0, 0), (0, 0, 1)], from_q].concat());
             counted(calls, &c, Err(15), "Fig. 1 (c)");
@@ -307,7 +304,6 @@ fn word(text: &str) -> Vec<u8> {
 #[test]
 fn examples_7_8_and_10() {
     for calls in common::everyone() {
-        let calls = calls.as_ref();
         let plan = figure_7(&[0, 5]);
         counted(calls, &plan, Ok(2), "Fig. 7 is 2-predictable");
         let (_, table) = prepared(calls, &plan).expect("k 2");
@@ -379,7 +375,6 @@ fn example_11_and_theorem_5() {
     let second = [(2, 3), (3, 4), (1, 4), (2, 4), (1, 3), (2, 1)];
     let mut r = Random::new(common::seed(), 11);
     for calls in common::everyone() {
-        let calls = calls.as_ref();
         for pairs in [first, second] {
             let pairs: Vec<(u8, u8)> = pairs.iter().map(|&(r, s)| (r - 1, s - 1)).collect();
             counted(calls, &theorem_5(4, &pairs), Ok(6), "Example 11: both are 6-predictable");
@@ -401,7 +396,6 @@ fn example_11_and_theorem_5() {
 #[test]
 fn bounds_that_are_reached() {
     for calls in common::everyone() {
-        let calls = calls.as_ref();
         for n in [2, 3, 4, 9, 33, 64] {
             counted(calls, &unary_chain(n), Ok(n as u32 - 1), "Fig. 10");
             let chain: Vec<Line> = (0..n as u8 - 1).map(|s| (s, 0, s + 1)).collect();
@@ -414,7 +408,6 @@ fn bounds_that_are_reached() {
 #[test]
 fn sizes_that_are_only_run() {
     for calls in common::everyone() {
-        let calls = calls.as_ref();
         // n 64 and 65
         counted(calls, &draft(64, 1, &[63], &[(63, 0, 62), (62, 0, 0)]), Ok(0), "n 64");
         assert_eq!(calls.count(&draft(65, 1, &[0], &[]).bytes()), REFUSED + 3, "n 65");
@@ -462,7 +455,7 @@ fn sizes_that_are_only_run() {
 fn a_whole_walk_of_more_than_a_million_legs() {
     let circle = draft(3, 2, &[0], &[(0, 0, 1), (1, 0, 2), (2, 0, 0), (1, 1, 0)]);
     for calls in common::everyone() {
-        let (_, table) = prepared(calls.as_ref(), &circle).expect("k 0");
+        let (_, table) = prepared(calls, &circle).expect("k 0");
         let mut word = vec![0; 1_500_000];
         let (mut sets, mut g) = (vec![0; word.len() + 2], [0]);
         sets[word.len() + 1] = 77;
@@ -483,25 +476,23 @@ fn a_whole_walk_of_more_than_a_million_legs() {
 #[test]
 fn a_million_legs() {
     let circle = draft(3, 2, &[0], &[(0, 0, 1), (1, 0, 2), (2, 0, 0), (1, 1, 0)]);
-    for (i, calls) in common::everyone().iter().enumerate() {
+    for (i, calls) in common::everyone().into_iter().enumerate() {
         // all three plans on the library; the others take their time, and one plan is enough for them
         let plans = [(plan_a(), 1), (circle.clone(), 1), (odometer(2, 3), 4)];
         for (plan, codes) in plans.into_iter().take(if i == 2 { 3 } else { 1 }) {
             let mut r = Random::new(common::seed(), 1_000_000);
             let mut legs: Vec<u32> = Vec::new();
-            let mut at = 0;
             // a walk that never leaves the plan: code 0 everywhere, and for the counters 0 or 2 on the x side
-            for _ in 0..1_000_000 {
+            for at in 0..MAX_LEGS {
                 legs.push(if codes == 4 && r.percent(30) { 2 } else { 0 });
-                at += 1;
-                if at % 100_000 == 99 {
+                if at % 100_000 == 98 {
                     // refused legs take no place
                     legs.push(plan.m as u32);
                 }
             }
             legs.extend([0, 255, u32::MAX, 0]);
             let session = Session { plan: plan.bytes(), legs, extra: 2 };
-            match session.compare(calls.as_ref()) {
+            match session.compare(calls) {
                 Ok(met) => {
                     assert!(met.contains(&"session of 1,000,000 legs".to_string()), "{met:?}");
                     assert!(met.contains(&"session with refused legs 11".to_string()), "{met:?}");

@@ -11,16 +11,15 @@ pub const MOST_LEGS: usize = 1_000_000;
 pub const REFUSED: u32 = 65_536;
 /// "The starts are named as stake 255, code 0."
 pub const STARTS: (u32, u32) = (255, 0);
-/// The header's word for "none was booked".
+/// What the C header has for "that none was booked".
 pub const NOTHING: u32 = 255;
 /// "the last booked stake (one byte, 255 before the first)"
 pub const NONE_BOOKED: u8 = 255;
 
-/// "Eight little-endian 16-bit numbers": the parts begin behind them.
+/// "Eight little-endian 16-bit numbers, in order: edition (1), .. total length": each part begins behind them, "at 16 or later".
 pub const EDITION: usize = 1;
-pub const HEADER: usize = 16;
-/// "total length", the last of them.
 pub const TOTAL: usize = 7;
+pub const HEADER: usize = 16;
 /// "A line is three bytes".
 pub const LINE: usize = 3;
 

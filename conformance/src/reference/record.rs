@@ -93,7 +93,7 @@ pub fn feed(plan: &Plan, k: usize, record: &Record, code: u32) -> Result<(Bookin
         return refuse(11, "a leg beyond 1,000,000");
     }
     if code as usize >= plan.m {
-        return refuse(12, if code > 255 { "the leg above 255" } else { "the leg not below m" });
+        return refuse(12, if code > u8::MAX as u32 { "the leg above 255" } else { "the leg not below m" });
     }
     // a new leg is read behind the held codes before its booking is worked out
     let mut word = record.held_codes().to_vec();

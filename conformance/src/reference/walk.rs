@@ -109,6 +109,9 @@ pub enum Reply {
     Nothing,
 }
 
+/// Walks of up to so many legs are walked again at each leg.
+const SHORT_WALK: usize = 40;
+
 /// The plain walk of document 01 on a plan with starts, its k and the codes offered: what opening and each leg reply, and the codes taken.
 pub fn plain_walk(plan: &Plan, k: usize, offered: &[u32]) -> (Reply, Vec<Reply>, Vec<u8>) {
     let opening = if k == 0 { Reply::Booked { position: 0, stake: members(&plan.starts)[0] } } else { Reply::Nothing };
@@ -141,7 +144,7 @@ pub fn plain_walk(plan: &Plan, k: usize, offered: &[u32]) -> (Reply, Vec<Reply>,
         let position = taken.len() - k;
         // Its one possible stake in the walk of the codes taken so far. For long walks it is filled in below from all codes taken, since
         // "later legs never change that stake".
-        let stake = if taken.len() <= 40 { the_one(&possible(plan, &plan.starts, &taken)[position]) } else { usize::MAX };
+        let stake = if taken.len() <= SHORT_WALK { the_one(&possible(plan, &plan.starts, &taken)[position]) } else { usize::MAX };
         bookings.push(replies.len());
         replies.push(Reply::Booked { position, stake });
     }

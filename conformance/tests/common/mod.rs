@@ -8,14 +8,14 @@ use conformance::plain::Plain;
 use conformance::reference::calls::Reference;
 
 /// Everyone who must answer as the documents say. The reference itself is among them, where answers are written from the documents.
-pub fn everyone() -> Vec<Box<dyn Calls>> {
+pub fn everyone() -> Vec<&'static dyn Calls> {
     vec![
-        Box::new(Reference),
-        Box::new(Plain),
+        &Reference,
+        &Plain,
         #[cfg(feature = "library")]
-        Box::new(conformance::library::Library { null_if_empty: false }),
+        &conformance::library::Library { null_if_empty: false },
         #[cfg(feature = "library")]
-        Box::new(conformance::library::Library { null_if_empty: true }),
+        &conformance::library::Library { null_if_empty: true },
     ]
 }
 
