@@ -5,7 +5,7 @@ use crate::cases::Case;
 use crate::forms::{evidence, letters, max_look_ahead, record, table, COUNTS, LENGTH, POSITION, REFUSED, STARTS, VERDICT};
 use crate::random::{bytes, claims, plans, records, tables, walks, Random};
 use crate::reference::lookahead::look_ahead;
-use crate::reference::plan::{read, Plan};
+use crate::reference::plan::{read, Plan, Read};
 use crate::reference::record::{feed, Record};
 use crate::reference::table::{plan_of, table_of};
 use crate::reference::{claim, size};
@@ -112,9 +112,10 @@ pub fn batch(r: &mut Random) -> (Vec<u8>, Vec<Case>) {
     let draft = plans::plan(r);
     let bytes = bytes::layout(r, &draft);
     let (n, m) = (draft.n, draft.m);
-    let plan = read(&bytes).expect("the generator draws plans that pass 1 to 7").plan;
-    let k = look_ahead(&plan);
     let mut cases = plan_calls(r, &bytes, n, m);
+    // the generator draws plans that pass 1 to 7; if the reference refuses one, let the comparison tell
+    let Ok(Read { plan, .. }) = read(&bytes) else { return (bytes, cases) };
+    let k = look_ahead(&plan);
     // damaged bytes: one refusal aimed at, sometimes more than one
     for _ in 0..4 {
         let mut damaged = bytes.clone();
@@ -145,7 +146,7 @@ pub fn batch(r: &mut Random) -> (Vec<u8>, Vec<Case>) {
         _ => r.below(8),
     };
     let table = if r.percent(40) { tables::table(r) } else { table_of(&plan, other.min(max_look_ahead(n))) };
-    // the generator draws tables that pass 8; if the reference refuses one, let the comparison tell
+    // as with plans: the generator draws tables that pass 8
     let Ok((plan, k)) = plan_of(&table) else {
         cases.push(Case::open(&table, record::length(max_look_ahead(n)), POSITION));
         return (bytes, cases);

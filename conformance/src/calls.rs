@@ -70,7 +70,7 @@ macro_rules! by_functions {
             }
 
             $(fn $call(&self, $($parameter: $type),*) -> u32 {
-                $answer($call($($parameter),*))
+                $answer(self::$call($($parameter),*))
             })*
         }
     };

@@ -37,11 +37,11 @@ macro_rules! in_c {
     ($self:ident $name:ident () ($($declared:tt)*) ($($passed:tt)*)) => {{
         extern "C" {
             #[link_name = concat!("gawherino_", stringify!($name))]
-            fn $name($($declared)*) -> u32;
+            fn foreign($($declared)*) -> u32;
         }
         // SAFETY: each pointer goes with the length of the slice it was taken from, and Rust's rules for slices see to it that no two of
         // them overlap if one is written. That is all that the header asks of a caller; tests/documents.rs compares its declarations.
-        unsafe { $name($($passed)*) }
+        unsafe { foreign($($passed)*) }
     }};
 }
 

@@ -10,16 +10,7 @@ pub struct Tally {
 
 impl Tally {
     pub fn note(&mut self, class: &str) {
-        match self.counts.get_mut(class) {
-            Some(count) => *count += 1,
-            None => {
-                self.counts.insert(class.to_string(), 1);
-            }
-        }
-    }
-
-    pub fn of(&self, class: &str) -> u64 {
-        self.counts.get(class).copied().unwrap_or(0)
+        *self.counts.entry(class.to_string()).or_default() += 1;
     }
 
     pub fn print(&self, title: &str) {
@@ -31,7 +22,7 @@ impl Tally {
 
     /// Fails unless each class was met.
     pub fn demand(&self, classes: &[String]) {
-        let missed: Vec<&String> = classes.iter().filter(|class| self.of(class) == 0).collect();
+        let missed: Vec<&String> = classes.iter().filter(|class| !self.counts.contains_key(*class)).collect();
         assert!(missed.is_empty(), "never met, so the run proves nothing about them: {missed:#?}");
     }
 }

@@ -3,7 +3,7 @@
 
 mod common;
 
-use common::program::{plan_a, program, ring, with_legs, SAMPLE};
+use common::program::{plan_a, ring, started, with_legs, SAMPLE};
 use conformance::families::{draft, odometer};
 use conformance::forms::plan::{number, HEADER, TOTAL};
 use conformance::lent::hex;
@@ -11,16 +11,11 @@ use conformance::random::{bytes, plans, walks, Random};
 use conformance::reference::plan::read;
 use conformance::reference::report::report;
 use std::io::Write;
-use std::process::{Command, Stdio};
+use std::process::Stdio;
 use std::time::{Duration, Instant};
 
 fn written(input: &[u8]) -> String {
-    let mut child = Command::new(program())
-        .stdin(Stdio::piped())
-        .stdout(Stdio::piped())
-        .stderr(Stdio::piped())
-        .spawn()
-        .expect("the report program can be started");
+    let mut child = started(Stdio::piped(), Stdio::piped());
     let mut stdin = child.stdin.take().expect("is piped");
     let input = input.to_vec();
     // the program may stop reading early, after a refusal

@@ -3,7 +3,7 @@
 
 mod common;
 
-use common::program::{plan_a, program, ring, with_legs, SAMPLE};
+use common::program::{plan_a, ring, started, with_legs, SAMPLE};
 use conformance::families::{draft, odometer};
 use conformance::forms::plan::{number, HEADER, TOTAL};
 use conformance::random::{bytes, plans, walks, Random};
@@ -13,7 +13,7 @@ use std::fs::File;
 use std::io::{BufRead, BufReader, Seek, Write};
 use std::os::fd::OwnedFd;
 use std::os::unix::net::UnixDatagram;
-use std::process::{Command, Output, Stdio};
+use std::process::{Output, Stdio};
 use std::sync::mpsc;
 use std::time::Duration;
 
@@ -25,8 +25,7 @@ fn text(bytes: &[u8]) -> String {
 }
 
 fn run(stdin: Stdio, stdout: Stdio) -> Output {
-    let child = Command::new(program()).stdin(stdin).stdout(stdout).stderr(Stdio::piped()).spawn();
-    child.expect("the report program can be started").wait_with_output().expect("the report program ends")
+    started(stdin, stdout).wait_with_output().expect("the report program ends")
 }
 
 /// What the program writes if each of its reads gets one piece: a read of a datagram takes it alone, and an empty one is an end.
@@ -152,8 +151,7 @@ fn a_long_plan_through_a_pipe() {
     let plan = odometer(32, 32);
     let input = with_legs(&plan, &[0; 40]);
     for size in [1, 15, 16, 17, 1000, 4096, 70_000] {
-        let mut child =
-            Command::new(program()).stdin(Stdio::piped()).stdout(Stdio::piped()).stderr(Stdio::piped()).spawn().expect("it starts");
+        let mut child = started(Stdio::piped(), Stdio::piped());
         let mut stdin = child.stdin.take().expect("is piped");
         let parts: Vec<Vec<u8>> = input.chunks(size).map(<[u8]>::to_vec).collect();
         let writer = std::thread::spawn(move || parts.iter().for_each(|part| stdin.write_all(part).expect("it reads all")));
@@ -166,7 +164,7 @@ fn a_long_plan_through_a_pipe() {
 
 #[test]
 fn a_leg_is_reported_while_the_pipe_stays_open() {
-    let mut child = Command::new(program()).stdin(Stdio::piped()).stdout(Stdio::piped()).stderr(Stdio::piped()).spawn().expect("it starts");
+    let mut child = started(Stdio::piped(), Stdio::piped());
     let mut stdin = child.stdin.take().expect("is piped");
     let stdout = child.stdout.take().expect("is piped");
     let (told, lines) = mpsc::channel();

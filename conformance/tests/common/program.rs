@@ -2,14 +2,20 @@
 
 use conformance::families::{draft, Draft};
 use std::path::PathBuf;
+use std::process::{Child, Command, Stdio};
 
-pub fn program() -> PathBuf {
+fn program() -> PathBuf {
     let path = match std::env::var_os("GAWHERINO_REPORT") {
         Some(path) => PathBuf::from(path),
         None => PathBuf::from(env!("CARGO_MANIFEST_DIR")).join("../target/bin/report"),
     };
     assert!(path.is_file(), "there is no {}: run `rt check report` in the repository first, or set GAWHERINO_REPORT", path.display());
     path
+}
+
+pub fn started(stdin: Stdio, stdout: Stdio) -> Child {
+    let child = Command::new(program()).stdin(stdin).stdout(stdout).stderr(Stdio::piped()).spawn();
+    child.expect("the report program can be started")
 }
 
 pub fn with_legs(plan: &Draft, legs: &[u8]) -> Vec<u8> {
