@@ -113,7 +113,6 @@ pub struct Parameter {
     pub room: fn(usize) -> Given,
 }
 
-#[derive(Clone, Copy)]
 pub enum Kind {
     Number,
     Input,

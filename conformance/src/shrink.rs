@@ -90,18 +90,16 @@ fn smaller_given(name: &str, given: &Given) -> Vec<Given> {
 fn smaller(case: &Case) -> Vec<Case> {
     match case {
         Case::Call(call) => {
-            let with = |place: usize, given| {
-                let mut other = call.clone();
-                other.given[place] = given;
-                Case::Call(other)
-            };
+            let mut cases = Vec::new();
             // the last parameter first: a word before its plan or table
-            let places = call.what.parameters.iter().zip(&call.given).enumerate().rev();
-            places
-                .flat_map(|(place, (parameter, given))| {
-                    smaller_given(parameter.name, given).into_iter().map(move |given| with(place, given))
-                })
-                .collect()
+            for (place, parameter) in call.what.parameters.iter().enumerate().rev() {
+                for given in smaller_given(parameter.name, &call.given[place]) {
+                    let mut other = call.clone();
+                    other.given[place] = given;
+                    cases.push(Case::Call(other));
+                }
+            }
+            cases
         }
         Case::Session(session) => {
             let legs = without_a_piece(&session.legs).into_iter().map(|legs| Session { legs, ..session.clone() });

@@ -85,6 +85,7 @@ fn the_reference_itself() {
             }
         }
     }
+    assert!(tally.cases > 500, "only {} sessions", tally.cases);
 }
 
 /// On two threads at once: "nothing is kept between calls, so that different threads may call at once".

@@ -34,10 +34,7 @@ fn counted(calls: &dyn Calls, plan: &Draft, expected: Result<u32, u32>, name: &s
     ] {
         case.compare(calls).unwrap_or_else(|message| fail(&case, calls, message, name));
     }
-    let number = match expected {
-        Ok(k) => k,
-        Err(refusal) => REFUSED + refusal,
-    };
+    let number = expected.unwrap_or_else(|refusal| REFUSED + refusal);
     assert_eq!(calls.count(&bytes), number, "{name} by the drawing entry of {}", calls.name());
     assert_eq!(prepared(calls, plan).map(|(k, _)| k), expected, "{name} by preparing of {}", calls.name());
     let mut counts = [0; COUNTS];

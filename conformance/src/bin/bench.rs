@@ -99,30 +99,26 @@ fn says(reply: u32) -> String {
     format!("k {reply}")
 }
 
-/// Lines that lead from lower stakes to higher ones, `e` of them at random: always predictable.
-fn downhill(r: &mut Random, m: usize, e: usize) -> Draft {
-    let mut lines: Vec<Line> = Vec::new();
-    let mut seen = std::collections::HashSet::new();
+/// `e` different lines of those that are drawn.
+fn drawn(r: &mut Random, m: usize, e: usize, draw: impl Fn(&mut Random) -> Option<Line>) -> Draft {
+    let (mut lines, mut seen) = (Vec::new(), std::collections::HashSet::new());
     while lines.len() < e {
-        let (a, b) = (r.below(MAX_STAKES) as u8, r.below(MAX_STAKES) as u8);
-        let line = (a, r.below(m) as u8, b);
-        if a < b && seen.insert(line) {
-            lines.push(line);
-        }
+        lines.extend(draw(r).filter(|&line| seen.insert(line)));
     }
     draft(MAX_STAKES, m, &[0], &lines)
 }
 
+/// Lines that lead from lower stakes to higher ones: always predictable.
+fn downhill(r: &mut Random, m: usize, e: usize) -> Draft {
+    drawn(r, m, e, |r| {
+        let (from, to) = (r.below(MAX_STAKES) as u8, r.below(MAX_STAKES) as u8);
+        let code = r.below(m) as u8;
+        (from < to).then_some((from, code, to))
+    })
+}
+
 fn any_lines(r: &mut Random, m: usize, e: usize) -> Draft {
-    let mut seen = std::collections::HashSet::new();
-    let mut lines: Vec<Line> = Vec::new();
-    while lines.len() < e {
-        let line = (r.below(MAX_STAKES) as u8, r.below(m) as u8, r.below(MAX_STAKES) as u8);
-        if seen.insert(line) {
-            lines.push(line);
-        }
-    }
-    draft(MAX_STAKES, m, &[0], &lines)
+    drawn(r, m, e, |r| Some((r.below(MAX_STAKES) as u8, r.below(m) as u8, r.below(MAX_STAKES) as u8)))
 }
 
 /// One line out of each stake by each code: k 0.

@@ -43,23 +43,12 @@ pub fn damage(r: &mut Random, bytes: &mut Vec<u8>, first: usize) {
     match r.among(first, 8) {
         1 => match r.below(5) {
             0 => bytes.truncate(r.below(HEADER)),
-            1 => {
-                bytes.pop();
-            }
+            1 => bytes.truncate(bytes.len() - 1),
             2 => bytes.push(r.next() as u8),
-            3 => {
-                let length = bytes.len();
-                bytes.truncate(r.among(HEADER, length));
-            }
-            _ => {
-                let wrong = r.pick(&[total + 1, total.wrapping_sub(1), 0, HEADER, total + 256, r.clone().below(65536)]);
-                set_number(bytes, TOTAL, wrong);
-            }
+            3 => bytes.truncate(r.among(HEADER, bytes.len())),
+            _ => set_number(bytes, TOTAL, r.pick(&[total + 1, total.wrapping_sub(1), 0, HEADER, total + 256, r.clone().below(65536)])),
         },
-        2 => {
-            let edition = r.pick(&[0, 2, 3, 256, 257, 65535]);
-            set_number(bytes, EDITION, edition);
-        }
+        2 => set_number(bytes, EDITION, r.pick(&[0, 2, 3, 256, 257, 65535])),
         3 => {
             let (place, wrong) = match r.below(4) {
                 0 => (N, r.pick(&[0, MAX_STAKES + 1, MAX_STAKES + 2, 256, 256 + MAX_STAKES, 65535])),

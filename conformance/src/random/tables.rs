@@ -30,9 +30,7 @@ pub fn damage(r: &mut Random, table: &mut Vec<u64>) {
     // with 64 stakes no bit is too high
     let high_bit = |r: &mut Random| if n < MAX_STAKES { 1u64 << r.among(n, MAX_STAKES - 1) } else { 0 };
     match r.below(12) {
-        0 => {
-            table.pop();
-        }
+        0 => table.truncate(table.len() - 1),
         1 => table.truncate(r.below(SETS + 1).min(table.len())),
         2 => table[N] = r.pick(&[0, MAX_STAKES as u64 + 1, MAX_STAKES as u64 + 2, 128, u64::MAX, 1 << 32, (1 << 32) + 1, 256]),
         3 => table[M] = r.pick(&[0, MAX_CODES as u64 + 1, 64, u64::MAX, 1 << 32, (1 << 32) + 1, 256]),
@@ -45,15 +43,8 @@ pub fn damage(r: &mut Random, table: &mut Vec<u64>) {
             let place = if table.len() > SETS { r.among(SETS, table.len() - 1) } else { STARTS };
             table[place] |= high_bit(r);
         }
-        8 => {
-            let last = table.len() - 1;
-            table[last] |= high_bit(r);
-        }
-        9 => {
-            if n < MAX_STAKES {
-                table[N] += 1;
-            }
-        }
+        8 => *table.last_mut().expect("has numbers") |= high_bit(r),
+        9 => table[N] += (n < MAX_STAKES) as u64,
         10 => table.extend([u64::MAX, 1, 0]),
         _ => {
             let place = r.below(table.len());

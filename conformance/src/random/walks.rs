@@ -73,12 +73,5 @@ pub fn stray_code(r: &mut Random, m: usize) -> u32 {
 /// The legs as a caller offers them, 32-bit numbers, with codes that are none of the plan's among them.
 pub fn offered(r: &mut Random, legs: &[u8], m: usize) -> Vec<u32> {
     let strays = r.pick(&[0, 1, 4]);
-    let mut offered = Vec::new();
-    for &leg in legs {
-        if r.percent(strays) {
-            offered.push(stray_code(r, m));
-        }
-        offered.push(leg as u32);
-    }
-    offered
+    legs.iter().flat_map(|&leg| [r.percent(strays).then(|| stray_code(r, m)), Some(leg as u32)]).flatten().collect()
 }

@@ -28,17 +28,10 @@ use Rattle.semiautomata.proofs.Shares.{member-lt}
 use Rattle.semiautomata.proofs.Successors.{place-lt, edge-is}
 use Rattle.walks.specs.Walking.{Letters}
 use Rattle.walks.proofs.Steps.{bare, bare-within}
-use Rattle.plan.specs.Bytes.{headerOf, meaning, WellFormed}
-use Rattle.plan.specs.Loading.{Loaded}
-use Rattle.plan.proofs.Refusals.{well-formed-range}
-use Rattle.plan.proofs.Loading.{room}
+use Rattle.plan.proofs.Tests.{or-none}
 use Rattle.lookahead.specs.declared.Evidence.{Evidence}
 use Rattle.lookahead.specs.Answers.{TrueOf}
-use Rattle.claim.specs.Checking.{NamedSet, LedBack, Loops}
-
-or-none : (a b : Bool) → (a || b) ≡ false → (a ≡ false) × (b ≡ false)
-or-none true b e = absurd (true≢false e)
-or-none false b e = (refl, e)
+use Rattle.claim.specs.inner.Steps.{NamedSet, LedBack, Loops}
 
 -- THE SET THAT IS NAMED
 
@@ -293,25 +286,6 @@ module _ {S : Semiautomaton} (W : Within S) (k : Evidence) (letters : List ℕ) 
               λ b. let (b, d) = and-out x y b in claimed-by (l .yes-so b) (r .yes-so d),
               λ b c. elim (decided x) [ inl d ↦ r .no-so (rw d at b) (c .witness .t-lasso) | inr d ↦ l .no-so d (c .witness .s-lasso) ],
             )
-
--- THE PLAN
-
-pub read-room : (plan : List ℕ) → WellFormed plan → headerOf plan .n * headerOf plan .m ≤ 2048
-read-room plan w = let r = well-formed-range plan w in room (r .n-high) (r .m-high)
-
--- with the counts under the names that code has for them
-module _ {plan old sets : List ℕ} {n m starts : ℕ} (n-is : n ≡ headerOf plan .n) (m-is : m ≡ headerOf plan .m) (l : Loaded plan old sets starts) where
-  pub read-fit : Fit n m sets × (starts < 2 ^ n)
-  read-fit = rw (n-is, m-is) (l .fit, l .starts-fit)
-
-  read-means : successors n m starts sets ≡ meaning plan
-  read-means = rw (n-is, m-is) (l .means)
-
-  pub read-yes : {k : Evidence} {letters : List ℕ} → TrueOf (successors n m starts sets) k letters → TrueOf (meaning plan) k letters
-  read-yes {k} {letters} c = subst (λ (S : Semiautomaton). TrueOf S k letters) read-means c
-
-  pub read-no : {k : Evidence} {letters : List ℕ} → ¬ TrueOf (successors n m starts sets) k letters → ¬ TrueOf (meaning plan) k letters
-  read-no {k} {letters} f c = f (subst (λ (S : Semiautomaton). TrueOf S k letters) (sym read-means) c)
 
 -- the answer and what it says
 pub yes-so : {P : Type 0} → P → (_≡_ {A = Bool} true true) ↔ P

@@ -2,15 +2,11 @@
 -- Assumes nothing.
 use Prim.Native.Nat.{ℕ}
 use mathlib.Core.Bool.{Bool, true, false}
-use mathlib.Core.Option.{some, none}
 use mathlib.Core.Logic.{_↔_}
 use mathlib.Core.Path.{_≡_}
 use mathlib.Core.List.{List}
-use Rattle.bitset.specs.Numbers.{has, setOf}
-use Rattle.semiautomata.specs.Semiautomaton.{Semiautomaton, Path}
-use Rattle.semiautomata.specs.Predictability.{Critical, member, named, Lasso}
 use Rattle.refusals.specs.Outcomes.{Outcome, refused, answered, Gives}
-use Rattle.plan.specs.Bytes.{meaning, refusal}
+use Rattle.plan.specs.Asked.{Asked, refusalOf}
 use Rattle.lookahead.specs.declared.Evidence.{Evidence}
 use Rattle.lookahead.specs.Answers.{TrueOf}
 use Rattle.claim.specs.declared.Checked.{Checked}
@@ -22,20 +18,6 @@ outcomeOfChecked Yes = answered true
 outcomeOfChecked No = answered false
 outcomeOfChecked (Refused r) = refused r
 
-abbrev pub Checks : List ℕ → Evidence → List ℕ → Checked → Type 0
-Checks plan c letters a = Gives (refusal plan) Unit (λ yes. (yes ≡ true) ↔ TrueOf (meaning plan) c letters) (outcomeOfChecked a)
-
--- The number is the set that two numbers name; 0 where they name none.
-pub record NamedSet (S : Semiautomaton) (q a set : ℕ) : Type 0 where
-  pub some-set : (T : Critical) → named S q a ≡ some T → set ≡ setOf (S .n) (member S T)
-  pub no-set : named S q a ≡ none → set ≡ 0
-
--- The answer says whether some member of the set is led back to itself by the cycle.
-pub record LedBack (S : Semiautomaton) (set : ℕ) (cycle : List ℕ) (r : Bool) : Type 0 where
-  pub yes-so : r ≡ true → (x : ℕ) × (has set x ≡ true) × Path S x cycle x
-  pub no-so : r ≡ false → (x : ℕ) → has set x ≡ true → ¬ Path S x cycle x
-
--- The answer says whether some state is reached from s by the stem and led back to itself by the cycle.
-pub record Loops (S : Semiautomaton) (s : ℕ) (stem cycle : List ℕ) (r : Bool) : Type 0 where
-  pub yes-so : r ≡ true → Lasso S s stem cycle
-  pub no-so : r ≡ false → ¬ Lasso S s stem cycle
+-- What the check gives, of any claim.
+abbrev pub Checks : Asked → Evidence → List ℕ → Checked → Type 0
+Checks A c letters a = Gives (refusalOf A) Unit (λ yes. (yes ≡ true) ↔ TrueOf (A .means) c letters) (outcomeOfChecked a)

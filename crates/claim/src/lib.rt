@@ -5,9 +5,11 @@ ghost use Prim.Native.Nat.{ℕ, _^_, _<_};
 ghost use Rattle.semiautomata.specs.Successors.{successors, Fit};
 ghost use Rattle.walks.specs.Walking.{Letters};
 ghost use Rattle.lookahead.specs.Answers.{TrueOf};
-ghost use Rattle.claim.specs.Checking.{Checks, LedBack, Loops, NamedSet};
+ghost use Rattle.plan.specs.Bytes.{asked};
+ghost use Rattle.claim.specs.Checking.{Checks};
+ghost use Rattle.claim.specs.inner.Steps.{LedBack, Loops, NamedSet};
 use lookahead::Evidence;
-use plan::Reading;
+use plan::Loaded;
 
 pub enum Checked {
     Yes,
@@ -82,14 +84,19 @@ fn is_true(sets: &[u64], n: usize, m: usize, starts: u64, claim: Evidence, lette
 
 // The reader's refusal; yes if and only if the claim is true of the plan; otherwise no.
 pub fn check(plan: &[u8], claim: Evidence, letters: &[u8]) -> Checked
-    ensures { λ r. ⌜ Checks (now (plan .entry)) claim (now (letters .entry)) r ⌝ }
+    ensures { λ r. ⌜ Checks (asked (now (plan .entry))) claim (now (letters .entry)) r ⌝ }
 {
-    let reading = plan::read(plan);
-    match reading {
-        Reading::Refused(r) => Checked::Refused(r),
-        Reading::Counts { n, m, p: _, e: _ } => {
-            let mut sets = [0u64; 2048];
-            let starts = plan::load(plan, &mut sets);
+    let mut sets = [0u64; 2048];
+    let loaded = plan::load(plan, &mut sets);
+    match loaded {
+        Loaded::Refused(r) => Checked::Refused(r),
+        Loaded::Plan {
+            n,
+            m,
+            p: _,
+            e: _,
+            starts,
+        } => {
             if is_true(&sets, n as usize, m as usize, starts, claim, letters) {
                 Checked::Yes
             } else {

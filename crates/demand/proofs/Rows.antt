@@ -22,8 +22,9 @@ use Rattle.semiautomata.specs.Levels.{live, clashIn, clash}
 use Rattle.refusals.specs.Outcomes.{Outcome, refused, answered}
 use Rattle.semiautomata.proofs.Shares.{lookahead-unique, lookahead-predicts}
 use Rattle.semiautomata.proofs.Computed.{longest-unique}
-use Rattle.plan.specs.Bytes.{meaning, refusal, WellFormed}
-use Rattle.plan.proofs.Refusals.{well-formed-within}
+use Rattle.plan.specs.Asked.{refusalOf}
+use Rattle.plan.specs.Bytes.{meaning, planChecks, asked, refusal, WellFormed}
+use Rattle.plan.proofs.Refusals.{well-formed-within, asked-proper}
 use Rattle.prepare.specs.declared.Prepared.{Prepared}
 use Rattle.prepare.specs.Preparing.{LooksAhead, asNumber, Draws}
 use Rattle.prepare.specs.Theorems.{Right}
@@ -38,14 +39,15 @@ use Rattle.simulate.specs.declared.Walked.{Walked}
 use Rattle.simulate.specs.declared.Walked.the-variants as walks
 use Rattle.simulate.specs.declared.Judged.{Judged}
 use Rattle.simulate.specs.declared.Judged.the-variants as judging
-use Rattle.simulate.specs.Walking.{Stands, walkRefusal, Walks}
-use Rattle.simulate.specs.Verdicts.{verdictRefusal, Judges, Tells, Computes}
-use Rattle.simulate.proofs.Theorems.{one-set, one-verdict}
+use Rattle.simulate.specs.Walking.{walkRefusal, Walks}
+use Rattle.simulate.specs.Verdicts.{Stands, verdictRefusal, Judges, Tells}
+use Rattle.simulate.specs.inner.Verdicts.{Computes}
+use Rattle.simulate.proofs.Theorems.{one-set, one-verdict, walked as walked-so}
 use Rattle.demand.specs.Demand.{Made}
 use Rattle.walks.proofs.Longest.{longest-some}
 use Rattle.simulate.proofs.Positions.{possible-stands}
 use Rattle.simulate.proofs.Naming.{tells}
-use Rattle.demand.proofs.Theorems.{theorems}
+use Rattle.demand.proofs.Theorems.{t, theorems}
 
 module _ (plan : List ℕ) (w : WellFormed plan) where
   -- a right answer is what the meaning has
@@ -53,7 +55,7 @@ module _ (plan : List ℕ) (w : WellFormed plan) where
   replies (some k) h a r = r .ready k .1 h
   replies none h a r = r .never .1 h
 
-  draws : (v : Option ℕ) → Ahead (meaning plan) v → (x : ℕ) → Draws plan x → x ≡ drawn v
+  draws : (v : Option ℕ) → Ahead (meaning plan) v → (x : ℕ) → Draws (asked plan) x → x ≡ drawn v
   draws v h x d = d .is ∙ go v h (d .outcome) (d .looks-ahead)
     where
       go : (v : Option ℕ) → Ahead (meaning plan) v → (o : Outcome ℕ) → LooksAhead (refusal plan) (meaning plan) o → asNumber o ≡ drawn v
@@ -65,12 +67,12 @@ module _ (plan : List ℕ) (w : WellFormed plan) where
 
 -- WHAT IS SAID BESIDE THE LOOK-AHEAD, of a table that preparing made
 
-module _ (plan : List ℕ) (W : Within (meaning plan)) (k : ℕ) (table : List ℕ) (made : Made plan k table) where
+module _ (plan : List ℕ) (W : Within (meaning plan)) (k : ℕ) (table : List ℕ) (made : Made (asked plan) k table) where
   means : tableMeaning table ≡ meaning plan
-  means = made .prepared .1 .means
+  means = t (asked plan) (asked-proper plan) k table made .means
 
   fit : unfit table ≡ false
-  fit = made .prepared .1 .fit
+  fit = t (asked plan) (asked-proper plan) k table made .fit
 
   walk-so : (w sets : List ℕ) → any (meaning plan .n) (meaning plan .initial) ≡ true → letterOff (meaning plan .m) w ≡ false → Longest (meaning plan) w (length w)
       → ((i : ℕ) → i ≤ length w → Stands (meaning plan .n) (PossibleAt (meaning plan) w i) (getD sets i 0)) → (old out : List ℕ) (a : Walked) → length w < length old → Walks table w a old out
@@ -81,7 +83,8 @@ module _ (plan : List ℕ) (W : Within (meaning plan)) (k : ℕ) (table : List �
       let e12 : letterOff (lettersOf table) w ≡ false = subst (λ (S : Semiautomaton). letterOff (S .m) w ≡ false) (sym means) letters in
       let e13 : any (statesOf table) (tableMeaning table .initial) ≡ true = subst (λ (S : Semiautomaton). any (S .n) (S .initial) ≡ true) (sym means) begun in
       absurd (n (e ∙ rw (fit, e9, e12, e13)))
-  walk-so w sets begun letters whole stand old out (walks.Upto h) room (_, (l, s, _, _)) =
+  walk-so w sets begun letters whole stand old out (walks.Upto h) room c =
+      let (l, s, _, _) = walked-so table w h old out c in
       let q : h ≡ length w = longest-unique (meaning plan) w h (length w) (subst (λ (S : Semiautomaton). Longest S w h) means l) whole in
       (ap walks.Upto q, λ i g. one-set _ _ _ _ (subst (λ (S : Semiautomaton). Stands (S .n) (PossibleAt S w i) (getD out i 0)) means (s i (omega arith))) (stand i g))
 
@@ -116,11 +119,11 @@ is-so : (plan : List ℕ) → Within (meaning plan) → (c : Saying) → Compute
 is-so plan W (walked w sets) (begun, letters, whole, at) = λ k table old out a made.
     let S = meaning plan in
     let l : Longest S w (length w) = rw whole at (longest-some S W w begun) in
-    walk-so plan W k table made w sets begun letters l (λ i h. possible-stands S W w (length w) l i h (eqb-true _ _ (not-false _ (any-not _ _ at i (omega arith))))) old out a
+    walk-so plan W k table made w sets begun letters l (λ i h. possible-stands S w W (length w) l i h (eqb-true _ _ (not-false _ (any-not _ _ at i (omega arith))))) old out a
 is-so plan W (judged q a w v) (name, letters, c) = λ k table r made. judge-so plan W k table made q a w v name letters (tells (meaning plan) W (fork q a) c) r
 is-so plan W at-bound e = λ k table made. lookahead-unique (made .prepared .0 .1) (ahead-so (meaning plan) W (some _) e)
 is-so plan W unopened e = λ k table bytes left a made room o.
-    theorems plan k table made .opening-refused bytes a left room o (λ s. not-so _ λ q. false≢true (sym e ∙ any-in _ _ s (W .initial-lt s q) q))
+    theorems (asked plan) (asked-proper plan) k table made .opening-refused bytes a left room o (λ s. not-so _ λ q. false≢true (sym e ∙ any-in _ _ s (W .initial-lt s q) q))
 
 all-so : (plan : List ℕ) → Within (meaning plan) → (cs : List Saying) → AllComputed (meaning plan) cs → AllSo plan cs
 all-so plan W [] _ = tt
@@ -134,7 +137,7 @@ row-holds r h c =
     let plan = bytes (r .sample) in
     let k = r .sample .lookahead in
     let w = h .well-formed in
-    let right = preparing-theorems plan in
+    let right = preparing-theorems (asked plan) (asked-proper plan) in
     record {
       counted = λ a old letters g c. replies plan w k (h .ahead) a (right .counted-right w a old letters g c);
       prepared = λ a old table old′ letters f g c. replies plan w k (h .ahead) a (right .prepared-right w a old table old′ letters f g c);

@@ -1,31 +1,19 @@
 -- The sample of specs/Sample.antt: each call's promise is met by computation.
 -- Assumes nothing.
-use Prim.Native.Nat.{ℕ, zero, suc, _+_, _*_, _^_, _≤_, _<_}
-use mathlib.Core.Bool.{true, and-false}
+use Prim.Native.Nat.{ℕ}
 use mathlib.Core.Path.{_≡_, refl}
-use mathlib.Core.Logic.{inl, inr}
-use mathlib.Core.List.{List, [], _∷_}
+use mathlib.Core.List.{List, [], _∷_, flatMap}
 use native.Mathlib.Omega.{arith}
-use lib.ListN.{length, getD}
-use borrow.Author.Tests.{lt-ltb}
 use Rattle.bitset.specs.Sets.{any, size, least}
 use Rattle.bitset.specs.Numbers.{has, setOf}
-use Rattle.bitset.proofs.Tests.{decided}
-use Rattle.bitset.proofs.Bits.{has-setOf}
-use Rattle.semiautomata.specs.Semiautomaton.{Within}
 use Rattle.semiautomata.specs.Predictability.{Lookahead}
 use Rattle.semiautomata.specs.Walks.{spells, step, possible, walkable}
 use Rattle.streaming.specs.PlainWalk.{limit}
-use Rattle.streaming.specs.Streaming.{base, sound, soleAt, settle, opened, feed}
-use Rattle.semiautomata.specs.Successors.{place}
-use Rattle.plan.specs.Bytes.{headerOf, parsed, meaning, WellFormed}
-use Rattle.plan.specs.Loading.{Entered, Loaded}
-use Rattle.plan.proofs.Loading.{loaded}
-use Rattle.plan.proofs.Refusals.{well-formed-within}
-use Rattle.table.specs.Table.{unfit}
-use Rattle.prepare.specs.Preparing.{prepareRefusal}
-use Rattle.prepare.proofs.Answers.{tabled}
-use Rattle.prepare.proofs.Promises.{prepare-ready}
+use Rattle.streaming.specs.Streaming.{base, sound, soleAt, settle}
+use Rattle.plan.specs.Bytes.{meaning, planChecks, asked}
+use Rattle.plan.proofs.Refusals.{asked-proper}
+use Rattle.table.specs.Table.{unfit, laidOut}
+use Rattle.prepare.specs.Preparing.{refusalWith, prepareRefusal}
 use Rattle.records.specs.Bytes.{tidy}
 use Rattle.predictor.specs.declared.Answer.{Answer}
 use Rattle.predictor.specs.declared.Answer.the-variants.{Refused, Resolved, Nothing}
@@ -34,12 +22,18 @@ use Rattle.demand.specs.Demand.{Made, none, more, Walk}
 use Rattle.demand.specs.Sample.{planA, tableA, offered, answers, Sample}
 use Rattle.demand.proofs.Theorems.{walked-right}
 use Rattle.samples.proofs.Plans.{samples-hold}
-use Rattle.samples.proofs.TableA.{is-loaded}
 
 -- THE TABLE
 
-no-refusal : prepareRefusal planA 8 9 ≡ 0
-unfolding prepareRefusal any
+abbrev old : List ℕ
+old = 9 ∷ 9 ∷ 9 ∷ 9 ∷ 9 ∷ 9 ∷ 9 ∷ 9 ∷ []
+
+laid : tableA ≡ laidOut (meaning planA) 1 old
+unfolding flatMap setOf any
+laid = refl
+
+no-refusal : prepareRefusal (asked planA) 8 9 ≡ 0
+unfolding refusalWith planChecks any
 no-refusal = refl
 
 abbrev letters : List ℕ
@@ -48,12 +42,12 @@ letters = 7 ∷ 7 ∷ 7 ∷ 7 ∷ 7 ∷ 7 ∷ 7 ∷ 7 ∷ 7 ∷ []
 predicts : Lookahead (meaning planA) 1
 predicts = samples-hold .0 .ahead
 
-made : Made planA 1 tableA
+made : Made (asked planA) 1 tableA
 made = record {
-  old = 9 ∷ 9 ∷ 9 ∷ 9 ∷ 9 ∷ 9 ∷ 9 ∷ 9 ∷ [];
+  old = old;
   old-letters = letters;
   letters = letters;
-  prepared = prepare-ready planA no-refusal predicts (tabled planA (samples-hold .0 .well-formed) is-loaded refl refl 1 predicts (omega arith) refl) refl;
+  prepared = ((no-refusal, predicts), laid, refl);
 }
 
 -- THE RECORD, in ten bytes of which the last is kept: before opening, opened, and after each letter that is taken
@@ -68,27 +62,27 @@ abbrev after : ℕ → ℕ → List ℕ
 after fed last = fed ∷ 0 ∷ 0 ∷ 0 ∷ last ∷ 0 ∷ 1 ∷ 0 ∷ 0 ∷ 5 ∷ []
 
 opens : Opens tableA lent Nothing begun
-unfolding openedOn opened unfit settle any has
+unfolding openedOn unfit settle any has
 opens = (refl, refl)
 
 first : Feeds tableA begun 0 (Resolved 0 0) (after 1 0)
-unfolding fedOn feed unfit tidy sound base limit settle soleAt walkable possible spells step any size least has
+unfolding fedOn unfit tidy sound base limit settle soleAt walkable possible spells step any size least has
 first = (refl, refl)
 
 refused-1 : Feeds tableA (after 1 0) 1 (Refused 12) (after 1 0)
-unfolding fedOn feed unfit tidy sound base limit settle soleAt walkable possible spells step any size least has
+unfolding fedOn unfit tidy sound base limit settle soleAt walkable possible spells step any size least has
 refused-1 = (refl, refl)
 
 second : Feeds tableA (after 1 0) 0 (Resolved 1 1) (after 2 1)
-unfolding fedOn feed unfit tidy sound base limit settle soleAt walkable possible spells step any size least has
+unfolding fedOn unfit tidy sound base limit settle soleAt walkable possible spells step any size least has
 second = (refl, refl)
 
 third : Feeds tableA (after 2 1) 0 (Resolved 2 1) (after 3 1)
-unfolding fedOn feed unfit tidy sound base limit settle soleAt walkable possible spells step any size least has
+unfolding fedOn unfit tidy sound base limit settle soleAt walkable possible spells step any size least has
 third = (refl, refl)
 
 refused-256 : Feeds tableA (after 3 1) 256 (Refused 12) (after 3 1)
-unfolding fedOn feed unfit tidy sound base limit settle soleAt walkable possible spells step any size least has
+unfolding fedOn unfit tidy sound base limit settle soleAt walkable possible spells step any size least has
 refused-256 = (refl, refl)
 
 walk : Walk tableA 1 offered Nothing answers
@@ -104,5 +98,5 @@ pub sample : Sample
 sample = record {
   made = made;
   walk = walk;
-  demand3 = walked-right planA 1 tableA made offered Nothing answers walk (λ r e. let z : _≡_ {A = ℕ} 0 1 = cc in absurd (omega arith));
+  demand3 = walked-right (asked planA) (asked-proper planA) 1 tableA made offered Nothing answers walk (λ r e. let z : _≡_ {A = ℕ} 0 1 = cc in absurd (omega arith));
 }

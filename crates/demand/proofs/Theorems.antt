@@ -1,48 +1,45 @@
 -- The theorems of specs/Demand.antt.
 -- Assumes nothing.
 use Prim.Native.Nat.{ℕ, _+_, _-_, _^_, _≤_, _<_}
-use mathlib.Core.Bool.{true, false, false≢true}
+use mathlib.Core.Bool.{true, false, not, false≢true}
 use mathlib.Core.Path.{_≡_, refl, sym, _∙_, ap}
 use mathlib.Core.Logic.{inl, inr}
 use mathlib.Core.List.{List, [], _∷_, map}
 use native.Mathlib.Omega.{arith}
-use native.Mathlib.Nat.{mul-le-mul-left, mul-le-mul-right}
 use lib.ListN.{length}
+use borrow.Author.Tests.{not-false}
 use Rattle.bitset.specs.Sets.{any}
-use Rattle.bitset.proofs.Tests.{decided, not-so}
+use Rattle.bitset.proofs.Tests.{and-out, decided, not-so}
 use Rattle.bitset.proofs.Below.{any-in, with-any}
 use Rattle.semiautomata.specs.Semiautomaton.{Semiautomaton, Within}
 use Rattle.semiautomata.specs.Predictability.{Predictable, Lookahead}
 use Rattle.streaming.specs.Calls.{Reply, refused, resolved, nothing, Result}
-use Rattle.refusals.specs.Checks.{Check}
 use Rattle.streaming.specs.Demand3.{Demand3}
-use Rattle.streaming.specs.Streaming.{opened, feed, streamed}
-use Rattle.streaming.proofs.Calls.{Among, Course, refuses, passes, course}
+use Rattle.streaming.specs.Streaming.{Rec, opened, feed, feedChecks, settledBy, streamed}
+use Rattle.streaming.proofs.Calls.{passed-done, behind}
+use Rattle.refusals.proofs.First.{first-passed}
 use Rattle.streaming.proofs.Streaming.{opened-none, opened-some, opened-agrees, never-14}
 use Rattle.streaming.proofs.Demand3 as over-meaning
 use Rattle.semiautomata.proofs.Bound.{lookahead-bound, lookahead-bound-one}
-use Rattle.plan.specs.Bytes.{meaning, WellFormed}
-use Rattle.plan.proofs.Refusals.{well-formed-within}
-use Rattle.prepare.specs.Preparing.{Tabled}
-use Rattle.prepare.proofs.Theorems.{theorems as preparing-theorems}
-use Rattle.table.specs.Table.{statesOf, lookaheadOf, tableMeaning, unfit}
-use Rattle.table.proofs.Fitness.{Fitting, fitting}
+use Rattle.plan.specs.Asked.{Asked}
+use Rattle.plan.specs.Bytes.{meaning, asked}
+use Rattle.plan.proofs.Refusals.{well-formed-within, asked-proper}
+use Rattle.plan.proofs.Asked.{Proper}
+use Rattle.prepare.proofs.Theorems.{table-read, theorems as preparing-theorems}
+use Rattle.table.specs.Table.{lookaheadOf, tableMeaning, unfit}
+use Rattle.table.proofs.Fitness.{fitting, lookahead-le}
+use Rattle.table.proofs.Form.{Reads}
 use Rattle.predictor.specs.declared.Answer.{Answer}
-use Rattle.records.specs.Bytes.{heldFrom, decode}
+use Rattle.records.specs.Bytes.{heldFrom, decode, tidy}
 use Rattle.predictor.specs.Replies.{said}
-use Rattle.predictor.specs.Calls.{written, onto, openedOn, fedOn, tableCheck, recordCheck, tidyCheck, Opens}
+use Rattle.predictor.specs.Calls.{letterChecks, written, openedOn, fedOn, Opens}
 use Rattle.demand.specs.Demand.{Made, Walk, Taken, Theorems, Demand, DemandMet}
 use Rattle.predictor.proofs.Following.{Holds, Small, encode-holds, follows-small, opened-is}
 use Rattle.demand.proofs.Feeding.{feeding-replies}
 
 -- a table that fits has a look-ahead that two bytes can count
-few : (table : List ℕ) → Fitting table → lookaheadOf table < 2 ^ 16
-few table f =
-    let n = statesOf table in
-    omega (arith, f .lookahead, mul-le-mul-left n (less n), mul-le-mul-right n (f .states))
-  where
-    less : (n : ℕ) → n - 1 ≤ n
-    less n = omega arith
+few : (table : List ℕ) → unfit table ≡ false → lookaheadOf table < 2 ^ 16
+few table fit = omega (arith, lookahead-le (fitting table fit))
 
 -- OVER THE TABLE ALONE
 module _ (table : List ℕ) (fit : unfit table ≡ false) (P : Predictable (tableMeaning table) (lookaheadOf table)) where
@@ -50,24 +47,16 @@ module _ (table : List ℕ) (fit : unfit table ≡ false) (P : Predictable (tabl
   W = fitting table fit .within
 
   on-never-14 : (bytes : List ℕ) (a : ℕ) → ¬ (fedOn table bytes a .reply ≡ refused 14)
-  unfolding fedOn
-  on-never-14 bytes a = go (fedOn table bytes a) (course checks bytes done)
-    where
-      checks : List Check
-      checks = tableCheck table ∷ recordCheck table bytes ∷ tidyCheck table bytes ∷ []
-
-      done : Result (List ℕ)
-      done = onto (lookaheadOf table) bytes (feed (tableMeaning table) (lookaheadOf table) (decode bytes) a)
-
-      other : (number : ℕ) → number ≡ 14 → ¬ Among number checks
-      other number e (inl x) = omega arith
-      other number e (inr (inl x)) = omega arith
-      other number e (inr (inr (inl x))) = omega arith
-      other number e (inr (inr (inr x))) = x
-
-      go : (s : Result (List ℕ)) → Course checks bytes done s → ¬ (s .reply ≡ refused 14)
-      go s (refuses number among) e = other number (cc) among
-      go s (passes _) e = never-14 (tableMeaning table) W (lookaheadOf table) P (decode bytes) a e
+  unfolding fedOn feed
+  on-never-14 bytes a e =
+      let S = tableMeaning table in
+      let k = lookaheadOf table in
+      let r = decode bytes in
+      let cs = letterChecks table bytes a in
+      let (z, d) = behind 14 13 cs refl refl bytes _ .0 e in
+      let (_, (_, (b, p))) = first-passed 13 cs refl z in
+      let on = passed-done (feedChecks S k r a) r (settledBy S k r a) (ap not (and-out (tidy k bytes) _ (not-false _ b) .1), p) in
+      never-14 S W k P r a (ap (λ (x : Result Rec). x .reply) on ∙ d)
 
   module _ (s : ℕ) (e : tableMeaning table .initial s ≡ true) where
     -- opening leaves bytes that hold the record of no letters
@@ -81,7 +70,7 @@ module _ (table : List ℕ) (fit : unfit table ≡ false) (P : Predictable (tabl
         k = lookaheadOf table
 
         small : Small k (opened S k .state)
-        small = follows-small table fit W P (few table (fitting table fit)) (opened S k .state) [] (opened-agrees S W k P s e .state)
+        small = follows-small table fit W P (few table fit) (opened S k .state) [] (opened-agrees S W k P s e .state)
 
         go : (reply : Reply) → opened S k .reply ≡ reply → Holds k (written k bytes (opened S k .state) reply) (opened S k .state)
         go (refused r) q = absurd (opened-some S W k P s e r q)
@@ -96,7 +85,7 @@ module _ (table : List ℕ) (fit : unfit table ≡ false) (P : Predictable (tabl
         let h = w .room in
         let reply : said first ≡ opened S k .reply = w .opening .0 ∙ ap (λ (x : Result (List ℕ)). x .reply) (opened-is table fit (w .bytes) h) in
         let holds : Holds k (w .left) (opened S k .state) = rw (w .opening .1) (opened-holds (w .bytes) h) in
-        rw (reply, feeding-replies table fit W P (few table (fitting table fit)) (w .feeding) (opened S k .state) [] holds (opened-agrees S W k P s e .state))
+        rw (reply, feeding-replies table fit W P (few table fit) (w .feeding) (opened S k .state) [] holds (opened-agrees S W k P s e .state))
 
     on-demand3 : Lookahead (tableMeaning table) (lookaheadOf table) → (offered : List ℕ) (first : Answer) (answers : List Answer) → Walk table (lookaheadOf table) offered first answers
         → Demand3 (tableMeaning table) (lookaheadOf table) offered (map said (first ∷ answers))
@@ -104,9 +93,9 @@ module _ (table : List ℕ) (fit : unfit table ≡ false) (P : Predictable (tabl
         rw (walk-streamed offered first answers w) (over-meaning.demand3 (tableMeaning table) W (lookaheadOf table) P s e offered)
 
 -- OF THE PLAN THAT THE TABLE WAS MADE FROM
-module _ (plan : List ℕ) (k : ℕ) (table : List ℕ) (made : Made plan k table) where
-  t : Tabled (meaning plan) k (made .old) table
-  t = made .prepared .1
+module _ (A : Asked) (P : Proper A) (k : ℕ) (table : List ℕ) (made : Made A k table) where
+  pub t : Reads (A .means) k table
+  t = table-read A P (made .old) (made .old-letters) (made .letters) (made .prepared)
 
   abbrev S : Semiautomaton
   S = tableMeaning table
@@ -117,21 +106,21 @@ module _ (plan : List ℕ) (k : ℕ) (table : List ℕ) (made : Made plan k tabl
   here : Lookahead S K
   here = rw (t .means, t .k-is) (made .prepared .0 .1)
 
-  same : (s : ℕ) → S .initial s ≡ meaning plan .initial s
+  same : (s : ℕ) → S .initial s ≡ A .means .initial s
   same s = ap (λ (T : Semiautomaton). T .initial s) (t .means)
 
   module _ (bytes : List ℕ) (a : Answer) (left : List ℕ) (h : heldFrom + k ≤ length bytes) (o : Opens table bytes a left) where
     opens-as : said a ≡ opened S K .reply
     opens-as = o .0 ∙ ap (λ (x : Result (List ℕ)). x .reply) (opened-is table (t .fit) bytes (rw (t .k-is) h))
 
-    refused-without : ((s : ℕ) → meaning plan .initial s ≡ false) → said a ≡ refused 13
+    refused-without : ((s : ℕ) → A .means .initial s ≡ false) → said a ≡ refused 13
     refused-without none = opens-as ∙ opened-none S K (λ s. same s ∙ none s)
 
-    taken-with : (s : ℕ) → meaning plan .initial s ≡ true → Taken a
+    taken-with : (s : ℕ) → A .means .initial s ≡ true → Taken a
     taken-with s e r q = opened-some S (W table (t .fit) (here .enough)) K (here .enough) s (same s ∙ e) r (sym opens-as ∙ q)
 
     -- an opening that is not refused has a start
-    started : Taken a → (s : ℕ) × (meaning plan .initial s ≡ true)
+    started : Taken a → (s : ℕ) × (A .means .initial s ≡ true)
     started taken = elim (decided (any (S .n) (S .initial))) [
       | inl q ↦ with-any (S .n) (S .initial) (λ s _ e. (s, sym (same s) ∙ e)) q
       | inr q ↦ absurd (taken 13 (refused-without λ s. sym (same s) ∙ none s q))
@@ -140,7 +129,7 @@ module _ (plan : List ℕ) (k : ℕ) (table : List ℕ) (made : Made plan k tabl
         none : (s : ℕ) → any (S .n) (S .initial) ≡ false → S .initial s ≡ false
         none s q = not-so _ λ e. false≢true (sym q ∙ any-in _ _ s (W table (t .fit) (here .enough) .initial-lt s e) e)
 
-  pub theorems : Theorems plan k table made
+  pub theorems : Theorems A k table made
   theorems = record {
     opening-refused = refused-without;
     opening-taken = λ bytes a left h o. (started bytes a left h o, λ (s, e). taken-with bytes a left h o s e);
@@ -148,14 +137,14 @@ module _ (plan : List ℕ) (k : ℕ) (table : List ℕ) (made : Made plan k tabl
   }
 
   pub walked-right : (offered : List ℕ) (first : Answer) (answers : List Answer) → Walk table k offered first answers → Taken first
-      → Demand3 (meaning plan) k offered (map said (first ∷ answers))
+      → Demand3 (A .means) k offered (map said (first ∷ answers))
   walked-right offered first answers w taken =
       let (s, e) = started (w .bytes) first (w .left) (w .room) (w .opening) taken in
       rw (t .means, t .k-is) at (on-demand3 table (t .fit) (here .enough) s (same s ∙ e) here offered first answers (rw (t .k-is) w))
 
 pub demand : DemandMet
 demand plan w =
-    let p = preparing-theorems plan in
+    let p = preparing-theorems (asked plan) (asked-proper plan) in
     let W = well-formed-within plan w in
     record {
       counted = p .counted-right w;
@@ -163,5 +152,5 @@ demand plan w =
       evidence = p .evidence-passes;
       bound = lookahead-bound (meaning plan) W;
       bound-one-letter = λ one. lookahead-bound-one (meaning plan) W one;
-      walked-right = walked-right plan;
+      walked-right = walked-right (asked plan) (asked-proper plan);
     }

@@ -9,7 +9,8 @@ use lib.ListN.{length}
 use Rattle.semiautomata.specs.Predictability.{Lookahead}
 use Rattle.streaming.specs.Calls.{refused}
 use Rattle.streaming.specs.Demand3.{Demand3}
-use Rattle.plan.specs.Bytes.{headerOf, meaning, WellFormed}
+use Rattle.plan.specs.Asked.{Asked}
+use Rattle.plan.specs.Bytes.{asked, WellFormed}
 use Rattle.table.specs.Table.{setsFrom}
 use Rattle.lookahead.specs.declared.Evidence.{Evidence}
 use Rattle.claim.specs.declared.Checked.{Checked}
@@ -24,12 +25,12 @@ use Rattle.records.specs.Bytes.{heldFrom}
 use Rattle.predictor.specs.Replies.{said}
 use Rattle.predictor.specs.Calls.{Opens, Feeds}
 
--- Preparing made the table from the plan and answered k: its promise held of what it was lent and what it left.
-pub record Made (plan : List ℕ) (k : ℕ) (table : List ℕ) : Type 0 where
+-- Preparing made the table from what was asked and answered k: its promise held of what it was lent and what it left.
+pub record Made (A : Asked) (k : ℕ) (table : List ℕ) : Type 0 where
   pub old : List ℕ
   pub old-letters : List ℕ
   pub letters : List ℕ
-  pub prepared : Prepares plan (Ready k) old table old-letters letters
+  pub prepared : Prepares A (Ready k) old table old-letters letters
 
 -- Letters offered one after the other, and the answers: each call is lent the table unchanged, and the bytes that the call before, taken
 -- or refused, left.
@@ -51,32 +52,32 @@ abbrev pub Taken : Answer → Type 0
 Taken first = (r : ℕ) → ¬ (said first ≡ refused r)
 
 -- What follows of a table that preparing made.
-pub record Theorems (plan : List ℕ) (k : ℕ) (table : List ℕ) (made : Made plan k table) : Type 0 where
+pub record Theorems (A : Asked) (k : ℕ) (table : List ℕ) (made : Made A k table) : Type 0 where
   -- opening with 8 + k bytes or more is refused exactly if there are no starts, and then with 13
   pub opening-refused : (bytes : List ℕ) (a : Answer) (left : List ℕ) → heldFrom + k ≤ length bytes → Opens table bytes a left
-      → ((s : ℕ) → meaning plan .initial s ≡ false) → said a ≡ refused 13
+      → ((s : ℕ) → A .means .initial s ≡ false) → said a ≡ refused 13
   pub opening-taken : (bytes : List ℕ) (a : Answer) (left : List ℕ) → heldFrom + k ≤ length bytes → Opens table bytes a left
-      → Taken a ↔ ((s : ℕ) × (meaning plan .initial s ≡ true))
+      → Taken a ↔ ((s : ℕ) × (A .means .initial s ≡ true))
   -- 14 is met on no record at all, whatever its bytes are
   pub never-14 : (bytes : List ℕ) (letter : ℕ) (a : Answer) (left : List ℕ) → Feeds table bytes letter a left → ¬ (said a ≡ refused 14)
 
--- DEMAND 3, the whole of it, of one plan.
-pub record Demand (plan : List ℕ) : Type 0 where
+-- DEMAND 3, the whole of it, of what is asked of one plan.
+pub record Demand (A : Asked) : Type 0 where
   -- the count: lent buffers being long enough, it is refused as unpredictable exactly when no k exists; otherwise k is answered
-  pub counted : (a : Prepared) (old letters : List ℕ) → headerOf plan .n * headerOf plan .n ≤ length old → CountsTo plan a old letters
-      → Right (meaning plan) a
-  pub prepared : (a : Prepared) (old table old′ letters : List ℕ) → setsFrom + headerOf plan .n * headerOf plan .m ≤ length old
-      → headerOf plan .n * headerOf plan .n ≤ length old′ → Prepares plan a old table old′ letters → Right (meaning plan) a
+  pub counted : (a : Prepared) (old letters : List ℕ) → A .means .n * A .means .n ≤ length old → CountsTo A a old letters
+      → Right (A .means) a
+  pub prepared : (a : Prepared) (old table old′ letters : List ℕ) → setsFrom + A .means .n * A .means .m ≤ length old
+      → A .means .n * A .means .n ≤ length old′ → Prepares A a old table old′ letters → Right (A .means) a
   -- with a loop as evidence, to which the separate check says yes
-  pub evidence : (e : Evidence) (old letters : List ℕ) → Answers plan (Unpredictable e) old letters
-      → (r : Checked) → Checks plan e letters r → r ≡ Yes
+  pub evidence : (e : Evidence) (old letters : List ℕ) → Answers A (Unpredictable e) old letters
+      → (r : Checked) → Checks A e letters r → r ≡ Yes
   -- the count never exceeds n (n - 1) / 2, or n - 1 where there is only one code
-  pub bound : (k : ℕ) → Lookahead (meaning plan) k → k ≤ headerOf plan .n * (headerOf plan .n - 1) / 2
-  pub bound-one-letter : headerOf plan .m ≡ 1 → (k : ℕ) → Lookahead (meaning plan) k → k ≤ headerOf plan .n - 1
+  pub bound : (k : ℕ) → Lookahead (A .means) k → k ≤ A .means .n * (A .means .n - 1) / 2
+  pub bound-one-letter : A .means .m ≡ 1 → (k : ℕ) → Lookahead (A .means) k → k ≤ A .means .n - 1
   -- the bookings: of every list of letters offered to a walk freshly opened, and not refused, on the plan so prepared
-  pub walked-right : (k : ℕ) (table : List ℕ) → Made plan k table → (offered : List ℕ) (first : Answer) (answers : List Answer)
-      → Walk table k offered first answers → Taken first → Demand3 (meaning plan) k offered (map said (first ∷ answers))
+  pub walked-right : (k : ℕ) (table : List ℕ) → Made A k table → (offered : List ℕ) (first : Answer) (answers : List Answer)
+      → Walk table k offered first answers → Taken first → Demand3 (A .means) k offered (map said (first ∷ answers))
 
 -- It holds of every well-formed plan.
 abbrev pub DemandMet : Type 0
-DemandMet = (plan : List ℕ) → WellFormed plan → Demand plan
+DemandMet = (plan : List ℕ) → WellFormed plan → Demand (asked plan)

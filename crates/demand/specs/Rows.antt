@@ -8,7 +8,7 @@ use mathlib.Core.List.{List, [], _∷_}
 use lib.ListN.{length, getD}
 use Rattle.streaming.specs.Calls as reply
 use Rattle.refusals.specs.Outcomes.{refused, answered}
-use Rattle.plan.specs.Bytes.{headerOf}
+use Rattle.plan.specs.Bytes.{headerOf, asked}
 use Rattle.samples.specs.Plans.{Sample, bytes, A, B, C, D, E, F, G, H, C′}
 use Rattle.table.specs.Table.{setsFrom}
 use Rattle.prepare.specs.declared.Prepared.{Prepared}
@@ -51,12 +51,12 @@ drawn none = 65551
 -- What document 01 says beside is so of the calls, lent a table that preparing made from the plan.
 abbrev pub IsSo : List ℕ → Saying → Type 0
 IsSo plan (walked word sets) =
-    (k : ℕ) (table old out : List ℕ) (a : Walked) → Made plan k table → length word < length old → Walks table word a old out
+    (k : ℕ) (table old out : List ℕ) (a : Walked) → Made (asked plan) k table → length word < length old → Walks table word a old out
     → (a ≡ Upto (length word)) × ((i : ℕ) → i ≤ length word → getD out i 0 ≡ getD sets i 0)
-IsSo plan (judged q a word v) = (k : ℕ) (table : List ℕ) (r : Judged) → Made plan k table → Judges table q a word r → r ≡ Told v
+IsSo plan (judged q a word v) = (k : ℕ) (table : List ℕ) (r : Judged) → Made (asked plan) k table → Judges table q a word r → r ≡ Told v
 IsSo plan unopened =
-    (k : ℕ) (table bytes left : List ℕ) (a : Answer) → Made plan k table → heldFrom + k ≤ length bytes → Opens table bytes a left → said a ≡ reply.refused 13
-IsSo plan at-bound = (k : ℕ) (table : List ℕ) → Made plan k table → k ≡ headerOf plan .n * (headerOf plan .n - 1) / 2
+    (k : ℕ) (table bytes left : List ℕ) (a : Answer) → Made (asked plan) k table → heldFrom + k ≤ length bytes → Opens table bytes a left → said a ≡ reply.refused 13
+IsSo plan at-bound = (k : ℕ) (table : List ℕ) → Made (asked plan) k table → k ≡ headerOf plan .n * (headerOf plan .n - 1) / 2
 
 abbrev pub AllSo : List ℕ → List Saying → Type 0
 AllSo plan [] = Unit {0}
@@ -64,11 +64,11 @@ AllSo plan (c ∷ cs) = IsSo plan c × AllSo plan cs
 
 -- What a row says of its plan's bytes: the calls answer its look-ahead, or 15; what else is said is so.
 pub record RowHolds (plan : List ℕ) (lookahead : Option ℕ) (sayings : List Saying) : Type 0 where
-  pub counted : (a : Prepared) (old letters : List ℕ) → headerOf plan .n * headerOf plan .n ≤ length old → CountsTo plan a old letters
+  pub counted : (a : Prepared) (old letters : List ℕ) → headerOf plan .n * headerOf plan .n ≤ length old → CountsTo (asked plan) a old letters
       → Replied lookahead a
   pub prepared : (a : Prepared) (old table old′ letters : List ℕ) → setsFrom + headerOf plan .n * headerOf plan .m ≤ length old
-      → headerOf plan .n * headerOf plan .n ≤ length old′ → Prepares plan a old table old′ letters → Replied lookahead a
-  pub drew : (x : ℕ) → Draws plan x → x ≡ drawn lookahead
+      → headerOf plan .n * headerOf plan .n ≤ length old′ → Prepares (asked plan) a old table old′ letters → Replied lookahead a
+  pub drew : (x : ℕ) → Draws (asked plan) x → x ≡ drawn lookahead
   pub so : AllSo plan sayings
 
 abbrev pub AllRows : List Row → Type 0

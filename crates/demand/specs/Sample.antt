@@ -4,7 +4,7 @@ use Prim.Native.Nat.{ℕ}
 use mathlib.Core.List.{List, [], _∷_, map}
 use Rattle.streaming.specs.Calls.{Reply, refused, resolved, nothing}
 use Rattle.streaming.specs.Demand3.{Demand3}
-use Rattle.plan.specs.Bytes.{meaning}
+use Rattle.plan.specs.Bytes.{meaning, asked}
 use Rattle.samples.specs.Plans.{bytes, A}
 use Rattle.predictor.specs.declared.Answer.{Answer}
 use Rattle.predictor.specs.declared.Answer.the-variants.{Refused, Resolved, Nothing}
@@ -29,7 +29,7 @@ replies = nothing ∷ resolved 0 0 ∷ refused 12 ∷ resolved 1 1 ∷ resolved 
 
 pub record Sample : Type 0 where
   -- preparing's promise allows this table
-  pub made : Made planA 1 tableA
+  pub made : Made (asked planA) 1 tableA
   -- the promises of opening and of a leg allow these answers
   pub walk : Walk tableA 1 offered Nothing answers
   -- demand 3 of them

@@ -1,11 +1,11 @@
 -- The numbers of answers: refusals are 1 to 15, and values are small.
 -- Assumes nothing.
 use Prim.Native.Nat.{ℕ, suc, _-_, _≤_, _<_}
-use mathlib.Core.Bool.{Bool, true, false, cond, not, _||_}
+use mathlib.Core.Bool.{Bool, true, false, cond, not}
 use mathlib.Core.Option.{Option, some, none}
 use mathlib.Core.Path.{_≡_, refl, sym, subst}
 use mathlib.Core.Logic.{_⊎_, inl, inr}
-use mathlib.Core.List.{List, [], _∷_, _++_}
+use mathlib.Core.List.{List, [], _∷_, _++_, append-nil}
 use native.Mathlib.Omega.{arith}
 use lib.Dec.{ltb}
 use lib.ListN.{length}
@@ -14,21 +14,23 @@ use Rattle.bitset.proofs.Tests.{decided}
 use Rattle.semiautomata.specs.Semiautomaton.{Semiautomaton}
 use Rattle.streaming.specs.Calls.{Reply, refused, resolved, nothing, Result, checked}
 use Rattle.refusals.specs.Checks.{Check, firstOf}
-use Rattle.streaming.specs.Streaming.{base, soleAt, resolve, settle, settled, unopened, openChecks, opened, feedChecks, feed}
-use Rattle.refusals.proofs.First.{Numbered, first-le, first-both, numbered-both, passed-first}
+use Rattle.streaming.specs.Streaming.{base, soleAt, resolve, settle, settled, unopened, openChecks, takeChecks, settledBy}
+use Rattle.refusals.proofs.First.{Numbered, first-le, first-both, numbered-both, numbered-up, passed-first}
 use Rattle.streaming.proofs.Calls.{Course, refuses as refuses-by, passes, course, among-numbered}
 use Rattle.streaming.proofs.Streaming.{at-sole}
-use Rattle.plan.specs.Bytes.{planChecks, refusal, outcomeOfReading, reading}
+use Rattle.plan.specs.Asked.{Asked, refusalOf}
+use Rattle.plan.specs.Bytes.{asked, outcomeOfReading, reading}
 use Rattle.plan.specs.declared.Reading.{Reading}
 use Rattle.plan.specs.declared.Reading.the-variants as read
-use Rattle.plan.proofs.Refusals.{well-formed-range}
+use Rattle.plan.proofs.Asked.{highest, Proper}
+use Rattle.plan.proofs.Refusals.{well-formed-range, asked-proper}
 use Rattle.plan.proofs.Readings.{reading-refused, reading-counts}
 use Rattle.table.specs.Table.{statesOf, lookaheadOf, tableMeaning, unfit}
 use Rattle.table.proofs.Fitness.{fitting}
 use Rattle.prepare.specs.declared.Prepared.{Prepared}
 use Rattle.prepare.specs.declared.Prepared.the-variants.{Ready, Refused, Unpredictable}
-use Rattle.prepare.specs.Preparing.{short, shortTable, shortLetters, countRefusal, prepareRefusal, Prepares, CountsTo}
-use Rattle.prepare.proofs.Refusals.{count-passes, prepare-passes}
+use Rattle.prepare.specs.Preparing.{short, refusalWith, Prepares, CountsTo}
+use Rattle.prepare.proofs.Refusals.{clear-passes}
 use Rattle.prepare.proofs.Answers.{small}
 use Rattle.prepare.proofs.Promises.{count-refused-so, prepare-refused-so}
 use Rattle.lookahead.specs.declared.Evidence.{Evidence}
@@ -46,7 +48,8 @@ use Rattle.predictor.specs.declared.Answer.the-variants as answer
 use Rattle.predictor.specs.Replies.{said}
 use Rattle.predictor.specs.declared.Ended.{Ended}
 use Rattle.predictor.specs.declared.Ended.the-variants as ended
-use Rattle.predictor.specs.Calls.{tableCheck, recordCheck, tidyCheck, lentChecks, bytesChecks, onto, openedOn, fedOn, Opens, Feeds, endChecks, endRefusal, Ends}
+use Rattle.predictor.specs.Calls.{tableCheck, recordCheck, bytesCheck, openingChecks, letterChecks, onto, openedOn, fedOn}
+use Rattle.predictor.specs.Calls.{Opens, Feeds, endChecks, endRefusal, Ends}
 use Rattle.records.specs.Bytes.{decode}
 use Rattle.gawherino.specs.Numbers.{Numbers, refusing, ofReading, ofPrepared, ofChecked, ofWalked, ofJudged, ofAnswer, ofEnded, PassesOn, answers, refuses}
 use Rattle.gawherino.specs.Theorems.{Number, value, refusal as refusal-number}
@@ -70,39 +73,39 @@ gives-number {before = before} n f (refuses _ e _ _) = let (l, h) = no-room befo
 
 -- ANSWERS ABOUT A PLAN
 
-module _ (plan : List ℕ) where
-  pub unread-number : {r : ℕ} → r ≡ refusal plan → ¬ (r ≡ 0) → Number (refusing r)
-  unfolding refusal
-  unread-number = refused-number (planChecks plan) refl
+module _ (A : Asked) (P : Proper A) where
+  pub asked-numbered : Numbered 15 (A .checks)
+  asked-numbered = numbered-up highest 15 (omega arith) (A .checks) (P .numbered)
 
-  short-number : (b : Bool) {r : ℕ} → r ≡ firstOf (planChecks plan ++ short b) → ¬ (r ≡ 0) → Number (refusing r)
-  short-number b = refused-number (planChecks plan ++ short b) refl
+  pub unread-number : {r : ℕ} → r ≡ refusalOf A → ¬ (r ≡ 0) → Number (refusing r)
+  unfolding refusalOf
+  unread-number = refused-number (A .checks) asked-numbered
 
-  pub reading-number : (a : Reading) → outcomeOfReading a ≡ reading plan → Number (ofReading a .first)
-  reading-number (read.Counts n m p e) d =
-      let (w, is, _) = reading-counts plan d in
-      let h = well-formed-range plan w .n-high in
-      value (omega arith)
-  reading-number (read.Refused r) d = let (is, z) = reading-refused plan d in unread-number is z
+  short-number : (b : Bool) {r : ℕ} → r ≡ refusalWith A b → ¬ (r ≡ 0) → Number (refusing r)
+  unfolding refusalWith
+  short-number b = refused-number (A .checks ++ short b) (numbered-both 15 (A .checks) (short b) asked-numbered refl)
 
-  pub prepared-number : (old table old′ letters : List ℕ) (a : Prepared) → Prepares plan a old table old′ letters → Number (ofPrepared a .first)
-  unfolding prepareRefusal
-  prepared-number old table old′ letters (Ready k) ((p, a), _, _) = let h = small plan (prepare-passes plan _ _ p) k a in value (omega arith)
-  prepared-number old table old′ letters (Refused r) c =
-      let (e, z, _, _) = prepare-refused-so plan c in
-      short-number (shortTable plan (length old) || shortLetters plan (length old′)) e z
+  pub prepared-number : (old table old′ letters : List ℕ) (a : Prepared) → Prepares A a old table old′ letters → Number (ofPrepared a .first)
+  prepared-number old table old′ letters (Ready k) ((p, a), _, _) = let h = small (P .sized (clear-passes A P _ p)) k a in value (omega arith)
+  prepared-number old table old′ letters (Refused r) c = let (e, z, _, _) = prepare-refused-so A P c in short-number _ e z
   prepared-number old table old′ letters (Unpredictable e) _ = refusal-number 15 (omega arith) (omega arith) refl
 
-  pub counted-number : (old letters : List ℕ) (a : Prepared) → CountsTo plan a old letters → Number (ofPrepared a .first)
-  unfolding countRefusal
-  counted-number old letters (Ready k) ((p, a), _) = let h = small plan (count-passes plan _ p) k a in value (omega arith)
-  counted-number old letters (Refused r) c = let (e, z, _) = count-refused-so plan c in short-number (shortLetters plan (length old)) e z
+  pub counted-number : (old letters : List ℕ) (a : Prepared) → CountsTo A a old letters → Number (ofPrepared a .first)
+  counted-number old letters (Ready k) ((p, a), _) = let h = small (P .sized (clear-passes A P _ p)) k a in value (omega arith)
+  counted-number old letters (Refused r) c = let (e, z, _) = count-refused-so A P c in short-number _ e z
   counted-number old letters (Unpredictable e) _ = refusal-number 15 (omega arith) (omega arith) refl
 
-  pub checked-number : (c : Evidence) (letters : List ℕ) (a : Checked) → Checks plan c letters a → Number (ofChecked a .first)
+  pub checked-number : (c : Evidence) (letters : List ℕ) (a : Checked) → Checks A c letters a → Number (ofChecked a .first)
   checked-number c letters claim.Yes _ = value (omega arith)
   checked-number c letters claim.No _ = value (omega arith)
   checked-number c letters (claim.Refused r) (e, z, _) = unread-number e z
+
+pub reading-number : (plan : List ℕ) (a : Reading) → outcomeOfReading a ≡ reading plan → Number (ofReading a .first)
+reading-number plan (read.Counts n m p e) d =
+    let (w, is, _) = reading-counts plan d in
+    let h = well-formed-range plan w .n-high in
+    value (omega arith)
+reading-number plan (read.Refused r) d = let (is, z) = reading-refused plan d in unread-number (asked plan) (asked-proper plan) is z
 
 -- ANSWERS ABOUT A TABLE
 
@@ -179,21 +182,19 @@ module _ (table bytes : List ℕ) where
   ]
 
   pub opened-small : (a : Answer) (left : List ℕ) → Opens table bytes a left → Small n (said a)
-  unfolding openedOn opened
+  unfolding openedOn
   opened-small a left (e, _) = subst (Small n) (sym e)
-      (checked-small n _ (lentChecks table bytes) bytes (onto k bytes (opened S k)) refl λ z.
-      checked-small n _ (openChecks S) unopened (settled S k (S .initial) unopened 0 []) refl λ _.
-      settled-small (recordCheck table bytes ∷ []) z (S .initial) 0 [])
+      (checked-small n _ (openingChecks table bytes) bytes (onto k bytes (settled S k (S .initial) unopened 0 [])) refl λ z.
+      settled-small (recordCheck table bytes ∷ openChecks S) z (S .initial) 0 [])
 
   pub fed-small : (letter : ℕ) (a : Answer) (left : List ℕ) → Feeds table bytes letter a left → Small n (said a)
-  unfolding fedOn feed
+  unfolding fedOn
   fed-small letter a left (e, _) =
       let r = decode bytes in
-      let w = r .held ++ (letter ∷ []) in
       subst (Small n) (sym e)
-      (checked-small n _ (bytesChecks table bytes) bytes (onto k bytes (feed S k r letter)) refl λ z.
-      checked-small n _ (feedChecks S k r letter) r (settled S k (base S k r) r (suc (r .fed)) w) refl λ _.
-      settled-small (recordCheck table bytes ∷ tidyCheck table bytes ∷ []) z (base S k r) (suc (r .fed)) w)
+      (checked-small n _ (letterChecks table bytes letter) bytes (onto k bytes (settledBy S k r letter)) refl λ z.
+      settled-small (recordCheck table bytes ∷ bytesCheck S k bytes ∷ takeChecks S k r letter) z (base S k r) (suc (r .fed))
+      (r .held ++ (letter ∷ [])))
 
   pub opened-number : (a : Answer) (left : List ℕ) → Opens table bytes a left → Number (ofAnswer a .first)
   opened-number a left o = answer-number n a (opened-small a left o)

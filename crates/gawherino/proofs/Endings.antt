@@ -16,10 +16,9 @@ use Rattle.semiautomata.specs.Lists.{range, collect}
 use Rattle.semiautomata.specs.Walks.{possible}
 use Rattle.streaming.specs.Streaming.{base, unresolved, finish}
 use Rattle.table.specs.Table.{statesOf, lookaheadOf, tableMeaning, unfit}
-use Rattle.table.proofs.Fitness.{fitting}
+use Rattle.table.proofs.Fitness.{fitting, lookahead-le}
 use Rattle.records.specs.Bytes.{decode}
 use Rattle.predictor.specs.Calls.{endRefusal, ended}
-use Rattle.predictor.proofs.Tables.{lookahead-le}
 
 module _ {A : Type 0} (k : ℕ) (w : List ℕ) (f : ℕ → A) where
   -- of the last c positions at most k are not followed by k letters

@@ -10,7 +10,8 @@ use mir.Val.{boolByte}
 use Rattle.bitset.specs.Sets.{one-if}
 use Rattle.refusals.specs.Outcomes.{refused, answered}
 use Rattle.refusals.proofs.First.{first-behind, first-before}
-use Rattle.plan.specs.Bytes.{planChecks, refusal, PlanCounts, reading}
+use Rattle.plan.specs.Asked.{refusalOf}
+use Rattle.plan.specs.Bytes.{planChecks, PlanCounts, reading}
 use Rattle.prepare.specs.Preparing.{short}
 use Rattle.plan.proofs.Readings.{reading-refused, reading-well}
 use Rattle.plan.proofs.Refusals.{plan-numbered}
@@ -19,13 +20,13 @@ use Rattle.gawherino.specs.Numbers.{refusing, noRoom}
 
 module _ (plan : List ℕ) where
   pub no-room-refused : {r : ℕ} → refused r ≡ reading plan → refusing r ≡ noRoom (planChecks plan)
-  unfolding refusal
+  unfolding refusalOf
   no-room-refused e =
       let (a, n) = reading-refused plan e in
       ap refusing (a ∙ sym (first-before (planChecks plan) (short true) (λ z. n (a ∙ z))))
 
   pub no-room-read : {c : PlanCounts} → answered c ≡ reading plan → refusing 9 ≡ noRoom (planChecks plan)
-  unfolding refusal
+  unfolding refusalOf
   no-room-read e = ap refusing (sym (first-behind 7 (planChecks plan) (short true) (plan-numbered plan) (reading-well plan e .0)))
 
 module _ (old : List ℕ) (a : ℕ) where

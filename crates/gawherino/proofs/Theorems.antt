@@ -6,29 +6,32 @@ use mathlib.Core.Logic.{inl, inr}
 use mathlib.Core.List.{List, []}
 use native.Mathlib.Omega.{arith}
 use Rattle.refusals.specs.Outcomes.{Outcome, refused, answered}
-use Rattle.plan.specs.Bytes.{meaning, refusal}
+use Rattle.plan.specs.Asked.{Asked, refusalOf}
+use Rattle.plan.specs.Bytes.{asked}
+use Rattle.plan.proofs.Asked.{Proper}
+use Rattle.plan.proofs.Refusals.{asked-proper}
 use Rattle.prepare.specs.Preparing.{LooksAhead, asNumber, Draws}
 use Rattle.prepare.proofs.Answers.{small}
 use Rattle.predictor.specs.declared.Answer.the-variants.{Resolved}
 use Rattle.gawherino.specs.Promises.{claimOf}
 use Rattle.gawherino.specs.Theorems.{Number, value, refusal as refusal-number, Theorems}
-use Rattle.gawherino.proofs.Answering.{gives-number, unread-number, reading-number, prepared-number, counted-number, checked-number, walked-number, judged-number, opened-small, fed-small, opened-number, fed-number, ended-number}
+use Rattle.gawherino.proofs.Answering.{gives-number, asked-numbered, unread-number, reading-number, prepared-number, counted-number, checked-number, walked-number, judged-number, opened-small, fed-small, opened-number, fed-number, ended-number}
 
-drawn : (plan : List ℕ) {r : ℕ} → Draws plan r → Number r
-drawn plan d = rw (d .is) (go (d .outcome) (d .looks-ahead))
+drawn : (A : Asked) → Proper A → {r : ℕ} → Draws A r → Number r
+drawn A P d = rw (d .is) (go (d .outcome) (d .looks-ahead))
   where
-    go : (o : Outcome ℕ) → LooksAhead (refusal plan) (meaning plan) o → Number (asNumber o)
-    go (refused r) (inl (e, n)) = unread-number plan e n
+    go : (o : Outcome ℕ) → LooksAhead (refusalOf A) (A .means) o → Number (asNumber o)
+    go (refused r) (inl (e, n)) = unread-number A P e n
     go (refused r) (inr (_, e, _)) = refusal-number 15 (omega arith) (omega arith) (rw e)
-    go (answered k) (w, l) = let h = small plan w k l in value (omega arith)
+    go (answered k) (w, l) = let h = small (P .sized w) k l in value (omega arith)
 
 pub theorems : (r : ℕ) → Theorems r
 theorems r = record {
-  reading = λ plan old counts. gives-number refl (reading-number plan);
-  preparing = λ plan old table old′ letters old″ evidence. gives-number refl (prepared-number plan old table old′ letters);
-  counting = λ plan old letters old′ evidence. gives-number refl (counted-number plan old letters);
-  drawing = λ plan. drawn plan;
-  checking = λ plan claim letters p. rw (p .passed .answered) (checked-number plan (claimOf claim) letters (p .answer) (p .meets));
+  reading = λ plan old counts. gives-number (asked-numbered (asked plan) (asked-proper plan)) (reading-number plan);
+  preparing = λ plan old table old′ letters old″ evidence. gives-number (asked-numbered (asked plan) (asked-proper plan)) (prepared-number (asked plan) (asked-proper plan) old table old′ letters);
+  counting = λ plan old letters old′ evidence. gives-number (asked-numbered (asked plan) (asked-proper plan)) (counted-number (asked plan) (asked-proper plan) old letters);
+  drawing = λ plan. drawn (asked plan) (asked-proper plan);
+  checking = λ plan claim letters p. rw (p .passed .answered) (checked-number (asked plan) (asked-proper plan) (claimOf claim) letters (p .answer) (p .meets));
   walking = λ table word old sets old′ length. gives-number refl (walked-number table word old sets);
   judging = λ table state letter word old sets. gives-number refl (judged-number table state letter word);
   opening = λ table old bytes old′ position. gives-number refl (λ a. opened-number table old a bytes);

@@ -4,6 +4,7 @@ use Prim.Native.Nat.{ℕ, _<_}
 use mathlib.Core.Path.{_≡_}
 use mathlib.Core.List.{List, [], _∷_}
 use lib.ListN.{length, getD}
+use Rattle.plan.specs.Asked.{Asked}
 use Rattle.plan.specs.Bytes.{planChecks, outcomeOfReading, reading}
 use Rattle.lookahead.specs.declared.Evidence.{Evidence}
 use Rattle.claim.specs.declared.Checked.{Checked}
@@ -15,17 +16,17 @@ use Rattle.predictor.specs.declared.Ended.{Ended}
 use Rattle.predictor.specs.Calls.{tableCheck, Opens, Feeds, Ends}
 use Rattle.gawherino.specs.Numbers.{ofReading, ofPrepared, ofChecked, ofWalked, ofJudged, ofAnswer, ofEnded, Passed, PassesOn}
 
--- CALLS ON A PLAN: without room, 1 to 7, or 9.
+-- CALLS ON A PLAN: without room, what is asked of it, or 9.
 
 abbrev pub PassesReading : List ℕ → ℕ → List ℕ → List ℕ → Type 0
 PassesReading plan r old counts = PassesOn ofReading 3 (planChecks plan) (λ a. outcomeOfReading a ≡ reading plan) Unit r old counts
 
-abbrev pub PassesPrepared : List ℕ → ℕ → List ℕ → List ℕ → List ℕ → List ℕ → List ℕ → List ℕ → Type 0
-PassesPrepared plan r old table old′ letters old″ evidence =
-    PassesOn ofPrepared 6 (planChecks plan) (λ a. Prepares plan a old table old′ letters) ((table ≡ old) × (letters ≡ old′)) r old″ evidence
+abbrev pub PassesPrepared : Asked → ℕ → List ℕ → List ℕ → List ℕ → List ℕ → List ℕ → List ℕ → Type 0
+PassesPrepared A r old table old′ letters old″ evidence =
+    PassesOn ofPrepared 6 (A .checks) (λ a. Prepares A a old table old′ letters) ((table ≡ old) × (letters ≡ old′)) r old″ evidence
 
-abbrev pub PassesCount : List ℕ → ℕ → List ℕ → List ℕ → List ℕ → List ℕ → Type 0
-PassesCount plan r old letters old′ evidence = PassesOn ofPrepared 6 (planChecks plan) (λ a. CountsTo plan a old letters) (letters ≡ old) r old′ evidence
+abbrev pub PassesCount : Asked → ℕ → List ℕ → List ℕ → List ℕ → List ℕ → Type 0
+PassesCount A r old letters old′ evidence = PassesOn ofPrepared 6 (A .checks) (λ a. CountsTo A a old letters) (letters ≡ old) r old′ evidence
 
 -- A claim in numbers, as evidence is given; what is missing is 0, so that fewer than six numbers claim an empty loop.
 abbrev pub claimOf : List ℕ → Evidence
@@ -39,9 +40,9 @@ claimOf claim = record {
 }
 
 -- .. and fewer than six numbers are never a yes.
-pub record PassesCheck (plan claim letters : List ℕ) (r : ℕ) : Type 0 where
+pub record PassesCheck (A : Asked) (claim letters : List ℕ) (r : ℕ) : Type 0 where
   pub answer : Checked
-  pub meets : Checks plan (claimOf claim) letters answer
+  pub meets : Checks A (claimOf claim) letters answer
   pub passed : Passed (ofChecked answer) r [] []
   pub short : length claim < 6 → ¬ (r ≡ 1)
 

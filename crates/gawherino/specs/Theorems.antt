@@ -5,6 +5,7 @@
 use Prim.Native.Nat.{ℕ, _≤_, _<_}
 use mathlib.Core.Path.{_≡_}
 use mathlib.Core.List.{List}
+use Rattle.plan.specs.Bytes.{asked}
 use Rattle.table.specs.Table.{statesOf}
 use Rattle.prepare.specs.Preparing.{Draws}
 use Rattle.predictor.specs.declared.Answer.the-variants.{Resolved}
@@ -18,10 +19,10 @@ pub data Number (r : ℕ) : Type 0 where
 
 pub record Theorems (r : ℕ) : Type 0 where
   pub reading : (plan old counts : List ℕ) → PassesReading plan r old counts → Number r
-  pub preparing : (plan old table old′ letters old″ evidence : List ℕ) → PassesPrepared plan r old table old′ letters old″ evidence → Number r
-  pub counting : (plan old letters old′ evidence : List ℕ) → PassesCount plan r old letters old′ evidence → Number r
-  pub drawing : (plan : List ℕ) → Draws plan r → Number r
-  pub checking : (plan claim letters : List ℕ) → PassesCheck plan claim letters r → Number r
+  pub preparing : (plan old table old′ letters old″ evidence : List ℕ) → PassesPrepared (asked plan) r old table old′ letters old″ evidence → Number r
+  pub counting : (plan old letters old′ evidence : List ℕ) → PassesCount (asked plan) r old letters old′ evidence → Number r
+  pub drawing : (plan : List ℕ) → Draws (asked plan) r → Number r
+  pub checking : (plan claim letters : List ℕ) → PassesCheck (asked plan) claim letters r → Number r
   pub walking : (table word old sets old′ length : List ℕ) → PassesWalk table word r old sets old′ length → Number r
   pub judging : (table : List ℕ) (state letter : ℕ) (word old sets : List ℕ) → PassesVerdict table state letter word r old sets → Number r
   pub opening : (table old bytes old′ position : List ℕ) → PassesOpening table r old bytes old′ position → Number r

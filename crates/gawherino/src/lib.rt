@@ -5,7 +5,7 @@ ghost use mathlib.Core.Path.{_≡_};
 ghost use mathlib.Core.List.{[], _∷_};
 ghost use Prim.Native.Nat.{_≤_};
 ghost use lib.ListN.{length, getD};
-ghost use Rattle.plan.specs.Bytes.{planChecks};
+ghost use Rattle.plan.specs.Bytes.{planChecks, asked};
 ghost use Rattle.refusals.specs.Groups.{groupOf};
 ghost use Rattle.prepare.specs.Preparing.{Draws};
 ghost use Rattle.predictor.specs.Calls.{tableCheck};
@@ -49,11 +49,8 @@ fn no_room_on_plan(plan: &[u8]) -> u32
 fn no_room_on_table(table: &[u64]) -> u32
     ensures { λ r. ⌜ r ≡ noRoom (tableCheck (now (table .entry)) ∷ []) ⌝ }
 {
-    if table::is_unfit(table) {
-        REFUSED + 8
-    } else {
-        REFUSED + 9
-    }
+    let head = table::head_of(table);
+    if head.fit { REFUSED + 9 } else { REFUSED + 8 }
 }
 
 // CALLS ON A PLAN
@@ -102,7 +99,7 @@ pub extern "C" fn gawherino_prepare(
     letters: &mut [u8],
     evidence: &mut [u32],
 ) -> u32
-    ensures { λ r. ⌜ PassesPrepared (now (plan .entry)) r (now (table .entry)) (now (table .exit)) (now (letters .entry)) (now (letters .exit)) (now (evidence .entry)) (now (evidence .exit)) ⌝ }
+    ensures { λ r. ⌜ PassesPrepared (asked (now (plan .entry))) r (now (table .entry)) (now (table .exit)) (now (letters .entry)) (now (letters .exit)) (now (evidence .entry)) (now (evidence .exit)) ⌝ }
 {
     if evidence.len() < EVIDENCE {
         return no_room_on_plan(plan);
@@ -114,7 +111,7 @@ pub extern "C" fn gawherino_prepare(
 // The count call, which answers as preparing does.
 #[no_mangle]
 pub extern "C" fn gawherino_look_ahead(plan: &[u8], letters: &mut [u8], evidence: &mut [u32]) -> u32
-    ensures { λ r. ⌜ PassesCount (now (plan .entry)) r (now (letters .entry)) (now (letters .exit)) (now (evidence .entry)) (now (evidence .exit)) ⌝ }
+    ensures { λ r. ⌜ PassesCount (asked (now (plan .entry))) r (now (letters .entry)) (now (letters .exit)) (now (evidence .entry)) (now (evidence .exit)) ⌝ }
 {
     if evidence.len() < EVIDENCE {
         return no_room_on_plan(plan);
@@ -126,7 +123,7 @@ pub extern "C" fn gawherino_look_ahead(plan: &[u8], letters: &mut [u8], evidence
 // The drawing program's entry: the look-ahead, or the refusal, with no lent buffer.
 #[no_mangle]
 pub extern "C" fn gawherino_count(plan: &[u8]) -> u32
-    ensures { λ r. ⌜ Draws (now (plan .entry)) r ⌝ }
+    ensures { λ r. ⌜ Draws (asked (now (plan .entry))) r ⌝ }
 {
     let mut letters = [0u8; 4096];
     let counted = prepare::count(plan, &mut letters);
@@ -161,7 +158,7 @@ fn claim_of(claim: &[u32]) -> Evidence
 // The check of a claim: 1 for yes, 0 for no.
 #[no_mangle]
 pub extern "C" fn gawherino_check(plan: &[u8], claim: &[u32], letters: &[u8]) -> u32
-    ensures { λ r. ⌜ PassesCheck (now (plan .entry)) (now (claim .entry)) (now (letters .entry)) r ⌝ }
+    ensures { λ r. ⌜ PassesCheck (asked (now (plan .entry))) (now (claim .entry)) (now (letters .entry)) r ⌝ }
 {
     let checked = claim::check(plan, claim_of(claim), letters);
     match checked {

@@ -1,9 +1,3 @@
-pub mod Places
-pub mod Pairing
-pub mod Turning
-pub mod Rivals
-pub mod Leading
-pub mod Striking
-pub mod Rounds
+pub mod Rivalry
 pub mod Trails
 pub mod Claims

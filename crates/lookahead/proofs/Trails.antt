@@ -10,7 +10,8 @@ use native.Mathlib.Numerals.{add-one}
 use native.Mathlib.Omega.{arith}
 use lib.Dec.{eqb}
 use lib.ListN.{length, getD, set, length-set, take, drop, replicate, length-replicate}
-use lib.Seq.{getD-set-same, getD-set-other, take-set-le, take-suc-set, take-add, length-take-le, drop-at, drop-append-le, drop-set-lt, drop-drop, slice-empty}
+use lib.Seq.{getD-set-same, getD-set-other, take-set-le, take-suc-set, take-add, length-take-le}
+use lib.Seq.{drop-at, drop-append-le, drop-set-lt, drop-drop, slice-empty}
 use borrow.Author.Tests.{eq-eqb, ne-eqb}
 use Rattle.bitset.specs.Sets.{size}
 use Rattle.bitset.proofs.Below.{size-cong, size-without}
@@ -19,8 +20,8 @@ use Rattle.semiautomata.specs.Predictability.{Lasso}
 use Rattle.semiautomata.specs.Successors.{place}
 use Rattle.semiautomata.proofs.Paths.{path-join}
 use Rattle.semiautomata.proofs.Successors.{place-lt}
-use Rattle.lookahead.specs.Rows.{pair}
-use Rattle.lookahead.proofs.Places.{place-state, place-letter, zeros-at}
+use Rattle.pairs.specs.Rows.{pair}
+use Rattle.pairs.proofs.Places.{place-same, zeros-at}
 
 -- the letters lead from s to u in j steps, and on to x in i steps
 pub record Way (S : Semiautomaton) (s : ℕ) (letters : List ℕ) (j i u x : ℕ) : Type 0 where
@@ -35,11 +36,13 @@ module _ {S : Semiautomaton} {s : ℕ} {letters : List ℕ} where
   way-start p = record { to = refl; on = p }
 
   -- one letter more
-  way-next : {j i u x : ℕ} (a r : ℕ) → j ≤ i → i < length letters → S .edge x a r ≡ true → Way S s letters j i u x → Way S s (set letters i a) j (i + 1) u r
+  way-next : {j i u x : ℕ} (a r : ℕ) → j ≤ i → i < length letters → S .edge x a r ≡ true → Way S s letters j i u x
+      → Way S s (set letters i a) j (i + 1) u r
   way-next {j} {i} {u} {x} a r h room e w = record {
     to = rw (take-set-le j letters i a h) (w .to);
     on =
-        rw (add-one, take-suc-set letters i a room, drop-append-le j (take i letters) (a ∷ []) (rw (length-take-le i letters (omega arith)) h))
+        let apart = drop-append-le j (take i letters) (a ∷ []) (rw (length-take-le i letters (omega arith)) h) in
+        rw (add-one, take-suc-set letters i a room, apart)
         (path-join S (drop j (take i letters)) (a ∷ []) u x r (w .on) (r, e, refl));
   }
 
@@ -61,7 +64,8 @@ pub record Trail (S : Semiautomaton) (rows : List ℕ) (s t : ℕ) (old letters 
   pub s-path : Path S s (take i letters) x
   pub t-path : Path S t (take i letters) y
   pub wide : S .n * S .n ≤ length seen
-  pub marked : (u v j : ℕ) → u < S .n → v < S .n → getD seen (place (S .n) u v) 0 ≡ j + 1 → (j < i) × Way S s letters j i u x × Way S t letters j i v y
+  pub marked : (u v j : ℕ) → u < S .n → v < S .n → getD seen (place (S .n) u v) 0 ≡ j + 1
+      → (j < i) × Way S s letters j i u x × Way S t letters j i v y
   pub count : i + size (S .n * S .n) (λ p. eqb (getD seen p 0) 0) ≡ S .n * S .n
 
 cycle-is : (i d : ℕ) (l : List ℕ) → i + d ≤ length l → drop i (take (i + d) l) ≡ take d (drop i l)
@@ -92,7 +96,8 @@ module _ {S : Semiautomaton} (W : Within S) {rows : List ℕ} {s t : ℕ} {old :
     place-few = place-lt (S .n) (S .n) x y (T .x-lt) (T .y-lt)
 
     module _ (unseen : getD seen (place (S .n) x y) 0 ≡ 0) where
-      left : size (S .n * S .n) (λ p. eqb (getD seen p 0) 0) ≡ suc (size (S .n * S .n) (λ p. eqb (getD seen p 0) 0 && not (eqb (place (S .n) x y) p)))
+      left : size (S .n * S .n) (λ p. eqb (getD seen p 0) 0)
+          ≡ suc (size (S .n * S .n) (λ p. eqb (getD seen p 0) 0 && not (eqb (place (S .n) x y) p)))
       left = size-without (S .n * S .n) _ (place (S .n) x y) place-few (eq-eqb _ 0 unseen)
 
       pub trail-few : i < S .n * S .n
@@ -107,15 +112,16 @@ module _ {S : Semiautomaton} (W : Within S) {rows : List ℕ} {s t : ℕ} {old :
         marked u v j hu hv f = elim (ℕ-discrete (place (S .n) u v) (place (S .n) x y)) [
           | yes k ↦
               let g : j ≡ i = omega (arith, sym here ∙ rw k at f) in
-              let b : u ≡ x = sym (place-state (S .n) u v hv) ∙ rw k (place-state (S .n) x y (T .y-lt)) in
-              let c : v ≡ y = sym (place-letter (S .n) u v hv) ∙ rw k (place-letter (S .n) x y (T .y-lt)) in
-              rw (g, b, c) (omega arith, way-next a r (omega arith) room d (way-here i x (T .s-path)), way-next a q (omega arith) room e (way-here i y (T .t-path)))
+              let (b, c) = place-same (S .n) u v x y hv (T .y-lt) k in
+              let w = way-next a r (omega arith) room d (way-here i x (T .s-path)) in
+              rw (g, b, c) (omega arith, w, way-next a q (omega arith) room e (way-here i y (T .t-path)))
           | no k ↦
               let (h, w, z) = T .marked u v j hu hv (sym (getD-set-other seen (place (S .n) x y) (place (S .n) u v) (i + 1) 0 k) ∙ f) in
               (omega arith, way-next a r (omega arith) room d w, way-next a q (omega arith) room e z)
         ]
 
-        unmarked : (p : ℕ) → eqb (getD (set seen (place (S .n) x y) (i + 1)) p 0) 0 ≡ (eqb (getD seen p 0) 0 && not (eqb (place (S .n) x y) p))
+        unmarked : (p : ℕ) → eqb (getD (set seen (place (S .n) x y) (i + 1)) p 0) 0
+            ≡ (eqb (getD seen p 0) 0 && not (eqb (place (S .n) x y) p))
         unmarked p = elim (ℕ-discrete p (place (S .n) x y)) [
           | yes k ↦ rw (k, here, eq-eqb (place (S .n) x y) (place (S .n) x y) refl, and-false) (ne-eqb (i + 1) 0 (λ z. omega arith))
           | no k ↦ rw (getD-set-other seen (place (S .n) x y) p (i + 1) 0 k, ne-eqb (place (S .n) x y) p (λ z. k (sym z)), and-true)
@@ -136,7 +142,8 @@ module _ {S : Semiautomaton} (W : Within S) {rows : List ℕ} {s t : ℕ} {old :
         }
 
     -- the pair has been come to before, in `stem` steps
-    pub trail-end : (stem : ℕ) → getD seen (place (S .n) x y) 0 ≡ stem + 1 → S .n * S .n ≤ length old → (stem < i) × Ringed S s t stem (i - stem) old letters
+    pub trail-end : (stem : ℕ) → getD seen (place (S .n) x y) 0 ≡ stem + 1 → S .n * S .n ≤ length old
+        → (stem < i) × Ringed S s t stem (i - stem) old letters
     trail-end stem e room =
         let (h, w, z) = T .marked x y stem (T .x-lt) (T .y-lt) e in
         let whole : stem + (i - stem) ≡ i = omega arith in

@@ -1,4 +1,2 @@
-pub mod Rows
-pub mod Rivals
-pub mod Rounds
 pub mod Answers
+pub mod inner

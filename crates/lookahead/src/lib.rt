@@ -1,8 +1,7 @@
 // The look-ahead of a semiautomaton by its successor sets, or the witness that there is none; never from plan bytes.
-// Level by level, pairs of states that share no longer word are struck, and a list of work says which are looked at; the first level
-// without live rivals is the look-ahead, and a round that strikes nothing means that what is live then lives for ever.
-mod rows; // rows.rt: rows of pairs of states
-mod levels; // levels.rt: the levels of live pairs, round by round
+// Which pairs of states are rivals is worked out here, which pairs share words in crate pairs: the first number of letters with which no
+// rivals do is the look-ahead.
+mod rivals; // rivals.rt: the rows of rivals
 mod witness; // witness.rt: the critical set and the lasso of two states that share words of every length
 
 ghost use Prim.Native.Nat.{_*_, _^_, _≤_, _<_};
@@ -31,7 +30,8 @@ pub fn look_ahead(sets: &[u64], n: usize, m: usize, starts: u64, letters: &mut [
     requires { ⌜ Fit n m (now sets) × (starts < 2 ^ n) × (n * n ≤ length (now letters)) ⌝ }
     ensures { λ r. ⌜ Answers (successors n m starts (now (sets .entry))) r (now (letters .entry)) (now (letters .exit)) ⌝ }
 {
-    let found = levels::settle(sets, n, m, starts);
+    let rival = rivals::rivals(sets, n, m, starts);
+    let found = pairs::levels::settle(sets, n, m, &rival);
     if !found.stable {
         return Answer::Lookahead(found.rounds);
     }

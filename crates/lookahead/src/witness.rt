@@ -2,15 +2,13 @@
 // cycle that both can follow.
 use crate::Answer;
 use crate::Evidence;
-use crate::levels;
 ghost use mathlib.Core.Bool.{_&&_};
 ghost use mathlib.Core.Path.{_≡_};
 ghost use Prim.Native.Nat.{_*_, _^_, _≤_, _<_};
 ghost use lib.ListN.{length};
 ghost use Rattle.bitset.specs.Numbers.{has};
 ghost use Rattle.semiautomata.specs.Successors.{successors, Fit};
-ghost use Rattle.lookahead.specs.Rivals.{Together, Named};
-ghost use Rattle.lookahead.specs.Rounds.{Lasting};
+ghost use Rattle.lookahead.specs.inner.Rivals.{Together, Named, Endless};
 ghost use Rattle.lookahead.specs.Answers.{Answers};
 
 // Whether the set has both states.
@@ -62,7 +60,8 @@ pub fn evidence(
     high: usize,
     letters: &mut [u8],
 ) -> Evidence
-    requires { ⌜ Fit n m (now sets) × (starts < 2 ^ n) × Lasting (successors n m starts (now sets)) (now live) low high × (n * n ≤ length (now letters)) ⌝ }
+    requires { ⌜ Endless n m starts (now sets) (now live) low high ⌝ }
+    requires { ⌜ Fit n m (now sets) × (starts < 2 ^ n) × (n * n ≤ length (now letters)) ⌝ }
     ensures { λ r. ⌜ Answers (successors n m starts (now (sets .entry))) (Answer.Never r) (now (letters .entry)) (now (letters .exit)) ⌝ }
 {
     let set = critical_set(sets, n, m, starts, low, high);
@@ -73,7 +72,7 @@ pub fn evidence(
     let mut i: usize = 0;
     while seen[at] == 0 {
         seen[at] = (i + 1) as u16;
-        let step = levels::lead(sets, n, m, live, x, y);
+        let step = pairs::levels::lead(sets, n, m, live, x, y);
         letters[i] = step.letter as u8;
         x = step.first;
         y = step.second;

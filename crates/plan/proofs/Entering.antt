@@ -1,7 +1,7 @@
--- What holds between two turns of the loops over starts and lines: `-none` before the first, `-next` after one more, `-all` what it comes to.
+-- What holds between two turns of the loops over starts and lines: `-none` before the first, `-next` or `-off` after one more.
 -- Assumes nothing.
-use Prim.Native.Nat.{ℕ, suc, _+_, _*_, _^_, _≤_, _<_}
-use mathlib.Core.Bool.{Bool, true, false, not, _&&_, _||_, and-true, and-false, or-true, or-false, or-assoc}
+use Prim.Native.Nat.{ℕ, suc, _+_, _*_, _^_, _%_, _/_, _≤_, _<_}
+use mathlib.Core.Bool.{Bool, true, false, not, _&&_, _||_, true≢false, and-true, and-false, or-true, or-false, or-assoc}
 use mathlib.Core.Path.{_≡_, refl, sym, _∙_, ap}
 use mathlib.Core.Logic.{_⊎_, inl, inr}
 use mathlib.Core.List.{List}
@@ -11,100 +11,79 @@ use native.Mathlib.Nat.{suc-mul, mul-le-mul-right, lt-of-lt-of-le}
 use native.Mathlib.Decide.{ℕ-discrete}
 use lib.Dec.{eqb, ltb, leb}
 use lib.ListN.{length, getD, set, length-set}
-use lib.Seq.{getD-set-same, getD-set-other, drop-set-lt}
+use lib.Seq.{getD-set-same, getD-set-other}
 use lib.Bits.{bitAnd, bitOr, or-lt}
 use lib.Pow.{pow-lt, pow-pos}
-use borrow.Author.Tests.{lt-ltb, ltb-true, leb-false, eqb-true, eq-eqb, not-false}
+use borrow.Author.Tests.{lt-ltb, ltb-true, lt-leb, leb-false, eqb-true, eq-eqb}
 use Rattle.bitset.specs.Sets.{any, single}
 use Rattle.bitset.specs.Numbers.{has, setOf}
 use Rattle.bitset.proofs.Tests.{decided, and-out, not-so}
-use Rattle.bitset.proofs.Below.{any-not}
-use Rattle.bitset.proofs.Bits.{has-or, has-and, has-empty, has-setOf, has-pow, pow-setOf, same-members}
-use Rattle.semiautomata.specs.Plan.{Plan, says, twice, startOff, lineFits, lineOff, lineTwice}
+use Rattle.bitset.proofs.Bits.{has-or, has-and, has-empty, has-setOf, has-insert, has-test, shl-one, same-members}
 use Rattle.semiautomata.specs.Successors.{place}
 use Rattle.semiautomata.proofs.Successors.{place-lt}
-use Rattle.plan.specs.declared.Header.{Header}
-use Rattle.plan.specs.declared.Edge.{Edge}
-use Rattle.plan.specs.Bytes.{lineWidth, parsed, meaning}
-use Rattle.plan.specs.Loading.{Sound, IsLine, Entered}
-use Rattle.plan.proofs.Tests.{not-and, not-ltb}
+use Rattle.plan.specs.Plan.{Line, Plan, says, semiautomaton, twice, startHigh, startOff, lineFits}
+use Rattle.plan.specs.Loading.{Blank}
+use Rattle.plan.specs.inner.Steps.{StartsEntered, LinesEntered}
+use Rattle.plan.proofs.Tests.{or-none, not-and, not-ltb}
+
+-- the plan with the first i of its starts, or of its lines
+abbrev pub startsTo : ℕ → Plan → Plan
+startsTo i P = record { n = P .n; m = P .m; p = i; e = P .e; start = P .start; line = P .line }
+
+abbrev pub linesTo : ℕ → Plan → Plan
+linesTo i P = record { n = P .n; m = P .m; p = P .p; e = i; start = P .start; line = P .line }
+
+-- 2,048 sets are enough
+pub room : {n m : ℕ} → n ≤ 64 → m ≤ 32 → n * m ≤ 2048
+room {n} {m} h g = omega (arith, mul-le-mul-right m h)
 
 -- STARTS
-
--- the first i starts are entered, and some of them is n or more, or there twice
-pub record StartsEntered (n : ℕ) (start : ℕ → ℕ) (i set : ℕ) (off : Bool) : Type 0 where
-  pub set-is : set ≡ setOf n (λ s. any i (λ j. eqb (start j) s))
-  pub off-is : off ≡ (any i (λ j. leb n (start j)) || twice i (λ i j. eqb (start i) (start j)))
 
 -- a number with the members of p below n
 is-set : (n : ℕ) (p : ℕ → Bool) (r : ℕ) → ((t : ℕ) → has r t ≡ (ltb t n && p t)) → r ≡ setOf n p
 is-set n p r f = same-members r (setOf n p) (λ t. f t ∙ sym (has-setOf n p t))
 
-module _ (n : ℕ) (start : ℕ → ℕ) where
-  pub starts-none : StartsEntered n start 0 0 false
+pub starts-none : (P : Plan) → StartsEntered (startsTo 0 P) (record { set = 0; off = false })
+unfolding any
+starts-none P = record { set-is = is-set (P .n) _ 0 (λ t. rw (has-empty, and-false)); off-is = refl }
+
+module _ (P : Plan) (states : P .n ≤ 64) {i set : ℕ} {off : Bool} (w : StartsEntered (startsTo i P) (record { set = set; off = off })) where
+  -- the set with the start i in it, if that is a state
+  abbrev withStart : ℕ
+  withStart = bitOr set (bitAnd (setOf 64 (single (P .start i))) (setOf 64 (λ t. ltb t (P .n))))
+
+  start-entered : (t : ℕ) → (ltb t (P .n) ≡ true) ⊎ (ltb t (P .n) ≡ false) → has withStart t ≡ (ltb t (P .n) && semiautomaton (startsTo (suc i) P) .initial t)
   unfolding any
-  starts-none = record { set-is = is-set n _ 0 (λ t. rw (has-empty, and-false)); off-is = refl }
+  start-entered t (inl e) =
+      rw (has-or, w .set-is, has-setOf, has-and, has-setOf, has-setOf, e, lt-ltb t 64 (omega (arith, ltb-true t (P .n) e)), and-true)
+  start-entered t (inr e) = rw (has-or, w .set-is, has-setOf, has-and, has-setOf, has-setOf, e, and-false, and-false)
 
-  module _ (width : n ≤ 64) {i set : ℕ} {off : Bool} (w : StartsEntered n start i set off) where
-    next-set : bitOr set (bitAnd (setOf 64 (single (start i))) (setOf 64 (λ t. ltb t n))) ≡ setOf n (λ s. any (suc i) (λ j. eqb (start j) s))
-    unfolding any
-    next-set = is-set n _ _ (λ t. go t (decided (ltb t n)))
-      where
-        go : (t : ℕ) → (ltb t n ≡ true) ⊎ (ltb t n ≡ false)
-            → has (bitOr set (bitAnd (setOf 64 (single (start i))) (setOf 64 (λ t. ltb t n)))) t ≡ (ltb t n && (any i (λ j. eqb (start j) t) || eqb (start i) t))
-        go t (inl e) = rw (has-or, w .set-is, has-setOf, has-and, has-setOf, has-setOf, e, lt-ltb t 64 (omega (arith, ltb-true t n e)), and-true)
-        go t (inr e) = rw (has-or, w .set-is, has-setOf, has-and, has-setOf, has-setOf, e, and-false, and-false)
+  start-off : ((off || leb (P .n) (P .start i)) || has set (P .start i)) ≡ startOff (startsTo (suc i) P)
+  unfolding any
+  start-off = elim (decided (leb (P .n) (P .start i))) [
+    | inl e ↦ rw (e, or-true, or-true)
+    | inr e ↦ rw (e, w .off-is, w .set-is, has-setOf, lt-ltb (P .start i) (P .n) (leb-false (P .n) (P .start i) e)) (regroup (startHigh (startsTo i P)) (twice i (λ i j. eqb (P .start i) (P .start j))) _)
+  ]
+    where
+      regroup : (a b x : Bool) → (((a || b) || false) || x) ≡ ((a || false) || (b || x))
+      regroup a b x = simp (or-false, or-assoc)
 
-    next-off : ((off || leb n (start i)) || has set (start i))
-        ≡ (any (suc i) (λ j. leb n (start j)) || twice (suc i) (λ i j. eqb (start i) (start j)))
-    unfolding any
-    next-off = elim (decided (leb n (start i))) [
-      | inl e ↦ simp (e, or-true)
-      | inr e ↦ simp (e, or-false, w .off-is, w .set-is, has-setOf, lt-ltb (start i) n (leb-false n (start i) e), or-assoc)
-    ]
-
-    pub starts-next : {s one all : ℕ} {there : Bool} → s ≡ start i → one ≡ setOf 64 (single s) → all ≡ setOf 64 (λ t. ltb t n) → there ≡ has set s
-        → StartsEntered n start (i + 1) (bitOr set (bitAnd one all)) ((off || leb n s) || there)
-    starts-next e o a t = rw (o, a, t, e, add-one) (record { set-is = next-set; off-is = next-off })
-
-pub starts-all : {plan : List ℕ} {h : Header} → Sound plan h → {i set : ℕ} {off : Bool} → i ≡ h .p → StartsEntered (h .n) (λ j. getD plan (h .starts + j) 0) i set off
-    → (set ≡ setOf (h .n) (meaning plan .initial)) × (off ≡ startOff (parsed plan))
-starts-all s e w = rw (s .is) (rw (e, s .is) at (w .set-is), rw (e, s .is) at (w .off-is))
+  pub starts-next : {s one all : ℕ} {there : Bool} → s ≡ P .start i → one ≡ setOf 64 (single s) → all ≡ setOf 64 (λ t. ltb t (P .n)) → there ≡ has set s
+      → StartsEntered (startsTo (i + 1) P) (record { set = bitOr set (bitAnd one all); off = (off || leb (P .n) s) || there })
+  starts-next e o a t =
+      rw (o, a, t, e, add-one) (record { set-is = is-set (P .n) _ _ (λ t. start-entered t (decided (ltb t (P .n)))); off-is = start-off })
 
 -- LINES
 
-pub is-line : {plan : List ℕ} {h : Header} → Sound plan h → (i : ℕ) {from letter to : ℕ} → from ≡ getD plan (h .lines + lineWidth * i) 0
-    → letter ≡ getD plan (h .lines + lineWidth * i + 1) 0 → to ≡ getD plan (h .lines + lineWidth * i + 2) 0
-    → IsLine (record { from = from; letter = letter; to = to }) (parsed plan .line i)
-is-line s i e f g = record { from-is = rw (s .is) at e; letter-is = rw (s .is) at f; to-is = rw (s .is) at g }
-
--- some of the first i lines has a number not below its count
-abbrev pub anyOff : Plan → ℕ → Bool
-anyOff P i = any i (λ j. not (lineFits P (P .line j)))
-
-pub off-none : (P : Plan) → false ≡ anyOff P 0
+pub lines-none : (P : Plan) {sets : List ℕ} → Blank sets → LinesEntered (linesTo 0 P) sets (record { off = false; twice = false })
 unfolding any
-off-none P = refl
-
-module _ {plan : List ℕ} {h : Header} (s : Sound plan h) (i : ℕ) {off : Bool} (w : off ≡ anyOff (parsed plan) i) where
-  pub off-next : {r : Edge} → IsLine r (parsed plan .line i)
-      → (((off || leb (h .n) (r .from)) || leb (h .m) (r .letter)) || leb (h .n) (r .to)) ≡ anyOff (parsed plan) (i + 1)
-  unfolding any
-  off-next l = rw (add-one i, w, l .from-is, l .letter-is, l .to-is, s .is) (simp (not-and, not-ltb, or-assoc))
-
-  pub off-all : i ≡ h .e → off ≡ lineOff (parsed plan)
-  off-all e = w ∙ ap (anyOff (parsed plan)) (e ∙ ap (λ (x : Header). x .e) (s .is))
-
--- where a line's set stands, and the sets with the line in it
-abbrev linePlace : Plan → ℕ → ℕ
-linePlace P i = place (P .m) (P .line i .from) (P .line i .letter)
-
-abbrev withLine : Plan → ℕ → List ℕ → List ℕ
-withLine P i sets = set sets (linePlace P i) (bitOr (getD sets (linePlace P i) 0) (setOf 64 (single (P .line i .to))))
-
--- some of the first i lines is there twice
-abbrev pub repeated : Plan → ℕ → Bool
-repeated P i = twice i (λ i j. says (P .line i) (P .line j .from) (P .line j .letter) (P .line j .to))
+lines-none P (size, zeros) = record {
+  size = size;
+  below = λ j h. rw zeros (pow-pos (P .n));
+  edges = λ q a t h g k. rw (zeros, has-empty);
+  off-is = refl;
+  twice-is = λ _. refl;
+}
 
 -- different states or letters have different places
 place-inj : (m q a q′ a′ : ℕ) → a < m → a′ < m → place m q a ≡ place m q′ a′ → (q ≡ q′) × (a ≡ a′)
@@ -114,95 +93,97 @@ place-inj m q a q′ a′ h g e =
     let z : q ≡ q′ = omega arith in
     (z, omega (arith, ap (λ (x : ℕ). x * m) z))
 
--- line i has its numbers below their counts
-record LineFits (P : Plan) (i : ℕ) : Type 0 where
-  pub from-lt : P .line i .from < P .n
-  pub letter-lt : P .line i .letter < P .m
-  pub to-lt : P .line i .to < P .n
+-- what a line says is its numbers
+says-is : (l : Line) (q a t : ℕ) → says l q a t ≡ true → (l .from ≡ q) × (l .letter ≡ a) × (l .to ≡ t)
+says-is l q a t d =
+    let (x, d) = and-out (eqb (l .from) q) _ d in
+    let (y, z) = and-out (eqb (l .letter) a) _ d in
+    (eqb-true (l .from) q x, eqb-true (l .letter) a y, eqb-true (l .to) t z)
 
-line-fits : (P : Plan) → lineOff P ≡ false → (i : ℕ) → i < P .e → LineFits P i
-line-fits P off i h =
-    let l = P .line i in
-    let (a, e) = and-out (ltb (l .from) (P .n)) _ (not-false _ (any-not (P .e) (λ i. not (lineFits P (P .line i))) off i h)) in
-    let (b, c) = and-out (ltb (l .letter) (P .m)) _ e in
-    record { from-lt = ltb-true _ _ a; letter-lt = ltb-true _ _ b; to-lt = ltb-true _ _ c }
+-- the loop's test of a line's numbers, and the set with a line in it
+abbrev pub offTest : Plan → Line → Bool
+offTest P l = (leb (P .n) (l .from) || leb (P .m) (l .letter)) || leb (P .n) (l .to)
 
-module _ (P : Plan) (states : P .n ≤ 64) (i : ℕ) (f : LineFits P i) {old sets : List ℕ} (room : P .n * P .m ≤ length sets) (w : Entered P i old sets) where
-  among : linePlace P i < P .n * P .m
-  among = place-lt (P .n) (P .m) _ _ (f .from-lt) (f .letter-lt)
+abbrev linePlace : Plan → Line → ℕ
+linePlace P l = place (P .m) (l .from) (l .letter)
 
-  one-is : 2 ^ P .line i .to ≡ setOf 64 (single (P .line i .to))
-  one-is = pow-setOf 64 _ (lt-of-lt-of-le (f .to-lt) states)
+abbrev withLine : Plan → Line → List ℕ → List ℕ
+withLine P l sets = set sets (linePlace P l) (bitOr (getD sets (linePlace P l) 0) ((1 * 2 ^ l .to) % 2 ^ 64))
 
-  next-below : (j : ℕ) → j < P .n * P .m → getD (withLine P i sets) j 0 < 2 ^ P .n
-  next-below j h = elim (ℕ-discrete j (linePlace P i)) [
-    | yes e ↦ rw (e, getD-set-same sets (linePlace P i) _ 0 (lt-of-lt-of-le among room), ← one-is) (or-lt (P .n) _ _ (w .below _ among) (pow-lt (f .to-lt)))
-    | no e ↦ rw (getD-set-other sets _ j _ 0 e) (w .below j h)
-  ]
+off-test : (P : Plan) (l : Line) → offTest P l ≡ not (lineFits P l)
+off-test P l = simp (not-and, not-ltb, or-assoc)
 
-  next-edges : (q a t : ℕ) → q < P .n → a < P .m
-      → has (getD (withLine P i sets) (place (P .m) q a) 0) t ≡ (any i (λ j. says (P .line j) q a t) || says (P .line i) q a t)
-  next-edges q a t h g = elim (ℕ-discrete (place (P .m) q a) (linePlace P i)) [
-    | yes e ↦
-        let (x, y) = place-inj (P .m) q a (P .line i .from) (P .line i .letter) g (f .letter-lt) e in
-        rw (← e, getD-set-same sets (place (P .m) q a) _ 0 (rw (← e) at (lt-of-lt-of-le among room)), has-or, w .edges q a t h g, ← one-is, has-pow, eq-eqb _ _ (sym x), eq-eqb _ _ (sym y))
-    | no e ↦
-        let other : says (P .line i) q a t ≡ false = not-so _ (λ d. e (elsewhere d)) in
-        rw (getD-set-other sets _ (place (P .m) q a) _ 0 e, w .edges q a t h g, other, or-false)
-  ]
-    where
-      elsewhere : says (P .line i) q a t ≡ true → place (P .m) q a ≡ linePlace P i
-      elsewhere d =
-          let (x, d) = and-out (eqb (P .line i .from) q) _ d in
-          let (y, d) = and-out (eqb (P .line i .letter) a) _ d in
-          rw (eqb-true (P .line i .from) q x, eqb-true (P .line i .letter) a y)
+pub line-fits : (P : Plan) (l : Line) → offTest P l ≡ false → (l .from < P .n) × (l .letter < P .m) × (l .to < P .n)
+line-fits P l e =
+    let (e, c) = or-none (leb (P .n) (l .from) || leb (P .m) (l .letter)) _ e in
+    let (a, b) = or-none (leb (P .n) (l .from)) _ e in
+    (leb-false _ _ a, leb-false _ _ b, leb-false _ _ c)
 
-  next-lines : Entered P (i + 1) old (withLine P i sets)
+module _ (P : Plan) (states : P .n ≤ 64) (letters : P .m ≤ 32) {i : ℕ} {sets : List ℕ} {off again : Bool} (w : LinesEntered (linesTo i P) sets (record { off = off; twice = again })) where
+  abbrev l : Line
+  l = P .line i
+
+  -- a line with a number off is not entered
+  pub lines-off : offTest P l ≡ true → LinesEntered (linesTo (i + 1) P) sets (record { off = true; twice = again })
   unfolding any
-  next-lines = rw add-one (record {
-    below = next-below;
-    edges = next-edges;
-    kept = drop-set-lt (P .n * P .m) sets (linePlace P i) _ among ∙ w .kept;
+  lines-off e = rw add-one (record {
+    size = w .size;
+    below = w .below;
+    edges = λ q a t h g k. rw (w .edges q a t h g k, not-so _ (nowhere q a t h g k), or-false);
+    off-is = rw (sym (off-test P l) ∙ e, or-true);
+    twice-is = λ z. absurd (true≢false z);
   })
+    where
+      nowhere : (q a t : ℕ) → q < P .n → a < P .m → t < P .n → ¬ (says l q a t ≡ true)
+      nowhere q a t h g k d =
+          let (x, y, z) = says-is l q a t d in
+          true≢false (sym e ∙ rw (x, y, z, lt-leb (P .n) q h, lt-leb (P .m) a g, lt-leb (P .n) t k))
 
-  next-again : {again : Bool} → again ≡ repeated P i → (again || has (getD sets (linePlace P i) 0) (P .line i .to)) ≡ repeated P (i + 1)
-  unfolding any
-  next-again e = rw (add-one, e, w .edges _ _ (P .line i .to) (f .from-lt) (f .letter-lt))
+  module _ (e : offTest P l ≡ false) where
+    fits : (l .from < P .n) × (l .letter < P .m) × (l .to < P .n)
+    fits = line-fits P l e
 
--- the first i lines are entered, and some of them is there twice
-pub record LinesEntered (P : Plan) (i : ℕ) (old sets : List ℕ) (again : Bool) : Type 0 where
-  pub entered : Entered P i old sets
-  pub size : length sets ≡ length old
-  pub again-is : again ≡ repeated P i
+    among : linePlace P l < P .n * P .m
+    among = place-lt (P .n) (P .m) _ _ (fits .0) (fits .1)
 
-pub lines-none : (P : Plan) (old : List ℕ) → ((j : ℕ) → getD old j 0 ≡ 0) → LinesEntered P 0 old old false
-unfolding any
-lines-none P old zeros = record {
-  entered = record { below = λ j h. rw zeros (pow-pos (P .n)); edges = λ q a t h g. rw (zeros, has-empty); kept = refl };
-  size = refl;
-  again-is = refl;
-}
+    -- the place is one of the sets, and the state one of its bits
+    pub place-in : (linePlace P l < 2048) × (l .to < 64)
+    place-in = (lt-of-lt-of-le among (room states letters), lt-of-lt-of-le (fits .2) states)
 
-module _ {plan : List ℕ} {h : Header} (s : Sound plan h) {i : ℕ} {old sets : List ℕ} {again : Bool} (w : LinesEntered (parsed plan) i old sets again) where
-  module _ (off : lineOff (parsed plan) ≡ false) (lt : i < h .e) (room : h .n * h .m ≤ length old) {r : Edge} (l : IsLine r (parsed plan .line i)) where
-    fitting : LineFits (parsed plan) i
-    fitting = line-fits (parsed plan) off i (rw (s .is) at lt)
+    inside : linePlace P l < length sets
+    inside = rw (w .size) (place-in .0)
 
-    wide-enough : parsed plan .n * parsed plan .m ≤ length sets
-    wide-enough = rw (w .size) (rw (s .is) at room)
+    next-below : (j : ℕ) → j < P .n * P .m → getD (withLine P l sets) j 0 < 2 ^ P .n
+    next-below j h = elim (ℕ-discrete j (linePlace P l)) [
+      | yes e ↦ rw (e, getD-set-same sets (linePlace P l) _ 0 inside, shl-one 64 (l .to) (place-in .1)) (or-lt (P .n) _ _ (w .below _ among) (pow-lt (fits .2)))
+      | no e ↦ rw (getD-set-other sets _ j _ 0 e) (w .below j h)
+    ]
 
-    pub place-in : place (h .m) (r .from) (r .letter) < length sets
-    place-in = rw (l .from-is, l .letter-is, s .is) (lt-of-lt-of-le (place-lt _ _ _ _ (fitting .from-lt) (fitting .letter-lt)) wide-enough)
+    next-edges : (q a t : ℕ) → q < P .n → a < P .m → t < P .n
+        → has (getD (withLine P l sets) (place (P .m) q a) 0) t ≡ (semiautomaton (linesTo i P) .edge q a t || says l q a t)
+    next-edges q a t h g k = elim (ℕ-discrete (place (P .m) q a) (linePlace P l)) [
+      | yes e ↦
+          let (x, y) = place-inj (P .m) q a (l .from) (l .letter) g (fits .1) e in
+          rw (
+            x,
+            y,
+            getD-set-same sets (linePlace P l) _ 0 inside,
+            has-insert 64 _ _ t (place-in .1),
+            w .edges (l .from) (l .letter) t (fits .0) (fits .1) k,
+            eq-eqb (l .from) (l .from) refl,
+            eq-eqb (l .letter) (l .letter) refl,
+          )
+      | no e ↦
+          let other : says l q a t ≡ false = not-so _ (λ d. let (x, y, _) = says-is l q a t d in e (rw (x, y))) in
+          rw (getD-set-other sets _ (place (P .m) q a) _ 0 e, w .edges q a t h g k, other, or-false)
+    ]
 
-    pub lines-next : {one : ℕ} {there : Bool} → one ≡ setOf 64 (single (r .to)) → there ≡ has (getD sets (place (h .m) (r .from) (r .letter)) 0) (r .to)
-        → LinesEntered (parsed plan) (i + 1) old (set sets (place (h .m) (r .from) (r .letter)) (bitOr (getD sets (place (h .m) (r .from) (r .letter)) 0) one)) (again || there)
-    lines-next o t =
-        let states : parsed plan .n ≤ 64 = rw (s .is) at (s .states) in
-        rw (o, t, l .from-is, l .letter-is, l .to-is, s .is) (record {
-          entered = next-lines (parsed plan) states i fitting wide-enough (w .entered);
-          size = length-set sets _ _ ∙ w .size;
-          again-is = next-again (parsed plan) states i fitting wide-enough (w .entered) (w .again-is);
-        })
-
-  pub lines-all : i ≡ h .e → (again ≡ lineTwice (parsed plan)) × Entered (parsed plan) (h .e) old sets
-  lines-all e = (w .again-is ∙ ap (repeated (parsed plan)) (e ∙ ap (λ (x : Header). x .e) (s .is)), rw e at (w .entered))
+    pub lines-next : LinesEntered (linesTo (i + 1) P) (withLine P l sets) (record { off = off; twice = again || eqb (bitAnd (getD sets (linePlace P l) 0 / 2 ^ l .to) 1) 1 })
+    unfolding any
+    lines-next = rw add-one (record {
+      size = length-set sets _ _ ∙ w .size;
+      below = next-below;
+      edges = next-edges;
+      off-is = rw (w .off-is, sym (off-test P l) ∙ e, or-false);
+      twice-is = λ z. rw (w .twice-is z, has-test, w .edges _ _ (l .to) (fits .0) (fits .1) (fits .2));
+    })

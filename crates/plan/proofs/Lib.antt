@@ -1,4 +1,6 @@
 pub mod Tests
+pub mod Plan
+pub mod Asked
 pub mod Entering
 pub mod Refusals
 pub mod Readings

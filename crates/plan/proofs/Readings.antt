@@ -6,7 +6,7 @@ use mathlib.Core.Path.{_≡_, refl, sym, _∙_, ap}
 use mathlib.Core.List.{List}
 use native.Mathlib.Omega.{arith}
 use lib.Dec.{eqb}
-use borrow.Author.Tests.{eqb-true, eqb-false}
+use borrow.Author.Tests.{eqb-true, eqb-false, ne-eqb}
 use Rattle.refusals.specs.Outcomes.{Outcome, refused, answered}
 use Rattle.plan.specs.Bytes.{headerOf, refusal, WellFormed, PlanCounts, counts, reading}
 
@@ -30,3 +30,10 @@ module _ (plan : List ℕ) where
 
   pub reading-counts : {v : PlanCounts} → answered v ≡ reading plan → WellFormed plan × (v .n ≡ headerOf plan .n) × (v .m ≡ headerOf plan .m)
   reading-counts e = let (w, is) = reading-well e in (w, ap (λ (c : PlanCounts). c .n) is, ap (λ (c : PlanCounts). c .m) is)
+
+  -- and the reading of what is loaded
+  pub loaded-refused : {r : ℕ} → (r ≡ refusal plan) × ¬ (r ≡ 0) → refused r ≡ reading plan
+  loaded-refused (e, n) = rw (← e, ne-eqb _ _ n)
+
+  pub loaded-counts : {v : PlanCounts} → WellFormed plan → counts (headerOf plan) ≡ v → answered v ≡ reading plan
+  loaded-counts w e = rw (w, e)

@@ -2,14 +2,14 @@
 -- Assumes nothing.
 use Prim.Native.Nat.{ℕ, _+_, _*_}
 use mathlib.Core.Bool.{Bool, not, cond, _&&_, _||_}
-use mathlib.Core.Path.{_≡_}
-use mathlib.Core.List.{List, [], _∷_}
+use mathlib.Core.List.{List, [], _∷_, _++_}
 use lib.Dec.{eqb, ltb, leb}
 use lib.ListN.{length, getD}
 use Rattle.semiautomata.specs.Semiautomaton.{Semiautomaton}
-use Rattle.refusals.specs.Checks.{Check, firstOf}
+use Rattle.refusals.specs.Checks.{Check}
 use Rattle.refusals.specs.Outcomes.{Outcome, refused, answered}
-use Rattle.semiautomata.specs.Plan.{Line, Plan, semiautomaton, countOff, startOff, lineOff, lineTwice}
+use Rattle.plan.specs.Plan.{Line, Plan, semiautomaton, countOff, startOff, lineOff, lineTwice}
+use Rattle.plan.specs.Asked.{Asked, refusalOf, Passes}
 use Rattle.plan.specs.declared.Header.{Header}
 use Rattle.plan.specs.declared.Reading.{Reading}
 use Rattle.plan.specs.declared.Reading.the-variants.{Counts, Refused}
@@ -38,18 +38,19 @@ lineWidth = 3
 abbrev pub lineAt : List ℕ → ℕ → Line
 lineAt plan at = record { from = getD plan at 0; letter = getD plan (at + 1) 0; to = getD plan (at + 2) 0 }
 
--- The plan that the bytes hold: a start is one byte, a line is lineWidth bytes.
+-- The plan that the bytes hold where a header says: a start is one byte, a line is lineWidth bytes.
+abbrev pub parsedBy : Header → List ℕ → Plan
+parsedBy h plan = record {
+  n = h .n;
+  m = h .m;
+  p = h .p;
+  e = h .e;
+  start = λ i. getD plan (h .starts + i) 0;
+  line = λ i. lineAt plan (h .lines + lineWidth * i);
+}
+
 abbrev pub parsed : List ℕ → Plan
-parsed plan =
-    let h = headerOf plan in
-    record {
-      n = h .n;
-      m = h .m;
-      p = h .p;
-      e = h .e;
-      start = λ i. getD plan (h .starts + i) 0;
-      line = λ i. lineAt plan (h .lines + lineWidth * i);
-    }
+parsed plan = parsedBy (headerOf plan) plan
 
 -- What plan bytes mean.
 abbrev pub meaning : List ℕ → Semiautomaton
@@ -66,24 +67,34 @@ abbrev pub misplaced : Header → Bool
 misplaced h =
     not (placed (h .total) (h .starts) (h .p)) || (not (placed (h .total) (h .lines) (lineWidth * h .e)) || overlap (h .starts) (h .p) (h .lines) (lineWidth * h .e))
 
--- Refusals 1 to 7, in order.
-abbrev pub planChecks : List ℕ → List Check
-planChecks plan =
-    record { number = 1; applies = ltb (length plan) 16 || not (eqb (headerOf plan .total) (length plan)) }
-    ∷ record { number = 2; applies = not (eqb (headerOf plan .edition) 1) }
-    ∷ record { number = 3; applies = countOff (headerOf plan .n) (headerOf plan .m) (headerOf plan .p) (headerOf plan .e) }
-    ∷ record { number = 4; applies = misplaced (headerOf plan) }
-    ∷ record { number = 5; applies = startOff (parsed plan) }
-    ∷ record { number = 6; applies = lineOff (parsed plan) }
-    ∷ record { number = 7; applies = lineTwice (parsed plan) }
+-- Refusals 1 to 4, in order, of so many bytes with this header.
+abbrev pub headerChecks : ℕ → Header → List Check
+headerChecks size h =
+    record { number = 1; applies = ltb size 16 || not (eqb (h .total) size) }
+    ∷ record { number = 2; applies = not (eqb (h .edition) 1) }
+    ∷ record { number = 3; applies = countOff (h .n) (h .m) (h .p) (h .e) }
+    ∷ record { number = 4; applies = misplaced h }
     ∷ []
 
--- The first that applies, 0 if none does; a plan is well formed if none applies.
-unfoldable pub refusal : List ℕ → ℕ
-refusal plan = firstOf (planChecks plan)
+-- Refusals 5 to 7, in order.
+abbrev pub partChecks : Plan → List Check
+partChecks P =
+    record { number = 5; applies = startOff P } ∷ record { number = 6; applies = lineOff P } ∷ record { number = 7; applies = lineTwice P } ∷ []
+
+-- Refusals 1 to 7, in order.
+unfoldable pub planChecks : List ℕ → List Check
+planChecks plan = headerChecks (length plan) (headerOf plan) ++ partChecks (parsed plan)
+
+-- What a call asks that takes the bytes as they are.
+abbrev pub asked : List ℕ → Asked
+asked plan = record { checks = planChecks plan; means = meaning plan }
+
+-- The lowest that applies, 0 if none does; a plan is well formed if none applies.
+abbrev pub refusal : List ℕ → ℕ
+refusal plan = refusalOf (asked plan)
 
 abbrev pub WellFormed : List ℕ → Type 0
-WellFormed plan = refusal plan ≡ 0
+WellFormed plan = Passes (asked plan)
 
 -- What reading answers: n, m, p and e, or the refusal.
 pub record PlanCounts : Type 0 where

@@ -1,4 +1,7 @@
+pub mod Plan
+pub mod Asked
 pub mod Bytes
-pub mod Loading
 pub mod Written
+pub mod Loading
 pub mod Theorems
+pub mod inner

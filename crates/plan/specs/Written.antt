@@ -4,7 +4,7 @@ use Prim.Native.Nat.{ℕ, _+_, _*_}
 use mathlib.Core.List.{List, [], _∷_, _++_}
 use lib.ListN.{length}
 use Rattle.endian.specs.Numbers.{bytesOf}
-use Rattle.semiautomata.specs.Plan.{Line}
+use Rattle.plan.specs.Plan.{Line}
 use Rattle.plan.specs.Bytes.{lineWidth}
 
 -- n and m, the starts and the lines in order.

@@ -1,13 +1,14 @@
-// Plan bytes (document 01): reading them, with refusals 1 to 7, and loading what they mean as successor sets.
-// Nobody above looks at bytes: `read` says whether a plan is well formed and its counts, `load` gives the semiautomaton that it means.
+// Plan bytes (document 01): one pass over them judges refusals 1 to 7 and loads what they mean as successor sets.
+// Nobody above looks at bytes: `load` gives the semiautomaton that a well-formed plan means, and `read` its counts alone.
 ghost use mathlib.Core.Path.{_≡_};
-ghost use mathlib.Core.Bool.{false};
-ghost use Prim.Native.Nat.{ℕ, _+_, _*_, _≤_, _<_};
-ghost use lib.ListN.{length, getD};
-ghost use Rattle.bitset.specs.Numbers.{setOf};
-ghost use Rattle.semiautomata.specs.Plan.{countOff, startOff, lineOff, lineTwice};
-ghost use Rattle.plan.specs.Bytes.{number, headerOf, misplaced, parsed, meaning, refusal, outcomeOfReading, reading, WellFormed};
-ghost use Rattle.plan.specs.Loading.{Sound, partsRefusal, IsLine, Entered, Loaded};
+ghost use mathlib.Core.Bool.{cond};
+ghost use Prim.Native.Nat.{_+_, _≤_, _<_};
+ghost use lib.ListN.{length};
+ghost use Rattle.refusals.specs.Checks.{firstOf};
+ghost use Rattle.plan.specs.Plan.{countOff};
+ghost use Rattle.plan.specs.Bytes.{number, headerOf, parsedBy, misplaced, headerChecks, asked, outcomeOfReading, counts, reading};
+ghost use Rattle.plan.specs.Loading.{Blank, Loads};
+ghost use Rattle.plan.specs.inner.Steps.{Sound, StartsEntered, LinesEntered};
 
 // A line has so many bytes.
 const LINE_WIDTH: usize = 3;
@@ -27,6 +28,18 @@ pub struct Header {
 // What reading answers: the counts of states, letters, starts and lines, or the lowest refusal that applies.
 pub enum Reading {
     Counts { n: u16, m: u16, p: u16, e: u16 },
+    Refused(u8),
+}
+
+// What loading answers: the same counts and the set of starts, or the refusal.
+pub enum Loaded {
+    Plan {
+        n: u16,
+        m: u16,
+        p: u16,
+        e: u16,
+        starts: u64,
+    },
     Refused(u8),
 }
 
@@ -84,6 +97,36 @@ fn is_misplaced(h: Header) -> bool
         | ((0 < h.p) & (0 < lines_size) & (starts < lines_end) & (lines < starts_end))
 }
 
+// The first of 1 to 4 that applies; 0 if none does.
+fn first_of_header(total: bool, edition: bool, count: bool, part: bool) -> u8
+    ensures { λ r. ⌜ r ≡ cond total 1 (cond edition 2 (cond count 3 (cond part 4 0))) ⌝ }
+{
+    if total {
+        1
+    } else if edition {
+        2
+    } else if count {
+        3
+    } else if part {
+        4
+    } else {
+        0
+    }
+}
+
+// The lowest refusal of 1 to 4 that applies to so many bytes with this header; 0 if none does.
+fn header_refusal(h: Header, size: usize) -> u8
+    requires { ⌜ 16 ≤ size ⌝ }
+    ensures { λ r. ⌜ r ≡ firstOf (headerChecks size h) ⌝ }
+{
+    first_of_header(
+        h.total as usize != size,
+        h.edition != 1,
+        count_off(h.n, h.m, h.p, h.e),
+        is_misplaced(h),
+    )
+}
+
 // The starts as a set, and whether refusal 5 applies.
 struct Starts {
     set: u64,
@@ -92,142 +135,111 @@ struct Starts {
 
 fn enter_starts(plan: &[u8], h: Header) -> Starts
     requires { ⌜ Sound (now plan) h ⌝ }
-    ensures { λ r. ⌜ (r .set ≡ setOf (h .n) (meaning (now (plan .entry)) .initial)) × (r .off ≡ startOff (parsed (now (plan .entry)))) ⌝ }
+    ensures { λ r. ⌜ StartsEntered (parsedBy h (now (plan .entry))) r ⌝ }
 {
     let n = h.n as u32;
-    let at = h.starts as usize;
     let p = h.p as usize;
     let all = bitset::mask(n);
     let mut set: u64 = 0;
     let mut off = false;
     for i in 0..p {
-        let s = wide(plan[at + i]) as u32;
+        let s = plan[h.starts as usize + i] as u32;
         off = off | (n <= s) | bitset::contains(set, s);
         set = set | (bitset::singleton(s) & all);
     }
     Starts { set, off }
 }
 
-// The line at a place of the list.
-struct Edge {
-    from: u16,
-    letter: u16,
-    to: u16,
+// Whether refusal 6 applies; if not, whether 7 does.
+struct Lines {
+    off: bool,
+    twice: bool,
 }
 
-fn line_at(plan: &[u8], h: Header, i: usize) -> Edge
-    requires { ⌜ Sound (now plan) h × (i < h .e) ⌝ }
-    ensures { λ r. ⌜ IsLine r (parsed (now (plan .entry)) .line i) ⌝ }
+// Each line whose numbers are below their counts is put into the set at its place, unless it stands there already.
+fn enter_lines(plan: &[u8], h: Header, sets: &mut [u64; 2048]) -> Lines
+    requires { ⌜ Sound (now plan) h × Blank (now sets) ⌝ }
+    ensures { λ r. ⌜ LinesEntered (parsedBy h (now (plan .entry))) (now (sets .exit)) r ⌝ }
 {
-    let at = h.lines as usize + LINE_WIDTH * i;
-    Edge {
-        from: wide(plan[at]),
-        letter: wide(plan[at + 1]),
-        to: wide(plan[at + 2]),
-    }
-}
-
-// Refusal 6.
-fn line_off(plan: &[u8], h: Header) -> bool
-    requires { ⌜ Sound (now plan) h ⌝ }
-    ensures { λ r. ⌜ r ≡ lineOff (parsed (now (plan .entry))) ⌝ }
-{
-    let n = h.n;
-    let m = h.m;
-    let e = h.e as usize;
-    let mut off = false;
-    for i in 0..e {
-        let line = line_at(plan, h, i);
-        off = off | (n <= line.from) | (m <= line.letter) | (n <= line.to);
-    }
-    off
-}
-
-// Each line is put into the set at its place, among zeros; whether one stood there already, refusal 7.
-fn enter_lines(plan: &[u8], h: Header, sets: &mut [u64]) -> bool
-    requires { ⌜ Sound (now plan) h × (lineOff (parsed (now plan)) ≡ false) × (h .n * h .m ≤ length (now sets)) × ((i : ℕ) → getD (now sets) i 0 ≡ 0) ⌝ }
-    ensures { λ r. ⌜ (r ≡ lineTwice (parsed (now (plan .entry)))) × Entered (parsed (now (plan .entry))) (h .e) (now (sets .entry)) (now (sets .exit)) ⌝ }
-{
+    let n = h.n as usize;
     let m = h.m as usize;
     let e = h.e as usize;
+    let mut off = false;
     let mut twice = false;
     for i in 0..e {
-        let line = line_at(plan, h, i);
-        let place = line.from as usize * m + line.letter as usize;
-        let to = line.to as u32;
+        let at = h.lines as usize + LINE_WIDTH * i;
+        let from = plan[at] as usize;
+        let letter = plan[at + 1] as usize;
+        let to = plan[at + 2] as usize;
+        if (n <= from) | (m <= letter) | (n <= to) {
+            off = true;
+            continue;
+        }
+        let place = from * m + letter;
         let set = sets[place];
-        twice = twice | bitset::contains(set, to);
-        sets[place] = set | bitset::singleton(to);
+        twice = twice | ((set >> to) & 1 == 1);
+        sets[place] = set | (1 << to);
     }
-    twice
+    Lines { off, twice }
 }
 
-// The lowest refusal of 5 to 7 that applies, of a plan that passes 1 to 4; 0 if none does.
-fn parts_refusal(plan: &[u8], h: Header) -> u8
-    requires { ⌜ Sound (now plan) h ⌝ }
-    ensures { λ r. ⌜ r ≡ partsRefusal (parsed (now (plan .entry))) ⌝ }
+// The first of 5 to 7 that applies; 0 if none does.
+fn first_of_parts(start: bool, line: bool, again: bool) -> u8
+    ensures { λ r. ⌜ r ≡ cond start 5 (cond line 6 (cond again 7 0)) ⌝ }
 {
-    let starts = enter_starts(plan, h);
-    if starts.off {
-        return 5;
+    if start {
+        5
+    } else if line {
+        6
+    } else if again {
+        7
+    } else {
+        0
     }
-    if line_off(plan, h) {
-        return 6;
-    }
-    let mut sets = [0u64; 2048];
-    if enter_lines(plan, h, &mut sets) {
-        return 7;
-    }
-    0
 }
 
-// The lowest refusal of 1 to 7 that applies; 0 if none does.
-fn refusal_of(plan: &[u8]) -> u8
-    ensures { λ r. ⌜ r ≡ refusal (now (plan .entry)) ⌝ }
+// What a plan means, in sets lent empty: its initial states are answered with its counts. Or its lowest refusal.
+pub fn load(plan: &[u8], sets: &mut [u64; 2048]) -> Loaded
+    requires { ⌜ Blank (now sets) ⌝ }
+    ensures { λ r. ⌜ Loads (asked (now (plan .entry))) (counts (headerOf (now (plan .entry)))) (now (sets .exit)) r ⌝ }
 {
     if plan.len() < 16 {
-        return 1;
+        return Loaded::Refused(1);
     }
     let h = header_of(plan);
-    if h.total as usize != plan.len() {
-        return 1;
+    let front = header_refusal(h, plan.len());
+    if front != 0 {
+        return Loaded::Refused(front);
     }
-    if h.edition != 1 {
-        return 2;
+    let starts = enter_starts(plan, h);
+    let lines = enter_lines(plan, h, sets);
+    let refused = first_of_parts(starts.off, lines.off, lines.twice);
+    if refused != 0 {
+        return Loaded::Refused(refused);
     }
-    if count_off(h.n, h.m, h.p, h.e) {
-        return 3;
+    Loaded::Plan {
+        n: h.n,
+        m: h.m,
+        p: h.p,
+        e: h.e,
+        starts: starts.set,
     }
-    if is_misplaced(h) {
-        return 4;
-    }
-    parts_refusal(plan, h)
 }
 
 // n, m, p and e of a plan, or its lowest refusal.
 pub fn read(plan: &[u8]) -> Reading
     ensures { λ r. ⌜ outcomeOfReading r ≡ reading (now (plan .entry)) ⌝ }
 {
-    let refused = refusal_of(plan);
-    if refused != 0 {
-        return Reading::Refused(refused);
+    let mut sets = [0u64; 2048];
+    let loaded = load(plan, &mut sets);
+    match loaded {
+        Loaded::Refused(r) => Reading::Refused(r),
+        Loaded::Plan {
+            n,
+            m,
+            p,
+            e,
+            starts: _,
+        } => Reading::Counts { n, m, p, e },
     }
-    let h = header_of(plan);
-    Reading::Counts {
-        n: h.n,
-        m: h.m,
-        p: h.p,
-        e: h.e,
-    }
-}
-
-// What a well-formed plan means: its initial states, and its successor sets in a buffer of zeros.
-pub fn load(plan: &[u8], sets: &mut [u64]) -> u64
-    requires { ⌜ WellFormed (now plan) × (headerOf (now plan) .n * headerOf (now plan) .m ≤ length (now sets)) × ((i : ℕ) → getD (now sets) i 0 ≡ 0) ⌝ }
-    ensures { λ r. ⌜ Loaded (now (plan .entry)) (now (sets .entry)) (now (sets .exit)) r ⌝ }
-{
-    let h = header_of(plan);
-    let twice = enter_lines(plan, h, sets);
-    let starts = enter_starts(plan, h);
-    starts.set
 }

@@ -1,14 +1,14 @@
 -- Ending: its refusals, and the sets that it writes.
 -- Assumes nothing.
 use Prim.Native.Nat.{ℕ, zero, suc, _+_, _-_, _^_, _≤_, _<_, min}
-use mathlib.Core.Bool.{Bool, true, false, not, _&&_, _||_, true≢false}
-use mathlib.Core.Path.{_≡_, refl, sym, _∙_, ap}
-use mathlib.Core.List.{List, map}
+use mathlib.Core.Bool.{Bool, true, false, not, _||_, true≢false}
+use mathlib.Core.Path.{_≡_, refl, sym, _∙_, ap, subst}
+use mathlib.Core.List.{List, _++_, map}
 use native.Mathlib.Omega.{arith}
 use lib.ListN.{length, getD, take, drop, length-take, length-drop}
 use lib.Dec.{ltb}
 use lib.Seq.{drop-cons}
-use borrow.Author.Tests.{le-leb, lt-leb}
+use borrow.Author.Tests.{le-leb, lt-leb, ltb-false}
 use Rattle.bitset.specs.Sets.{any}
 use Rattle.bitset.specs.Numbers.{has, setOf}
 use Rattle.bitset.proofs.Below.{with-any}
@@ -25,11 +25,14 @@ use Rattle.table.specs.Table.{lookaheadOf, tableMeaning, unfit}
 use Rattle.walks.specs.Walking.{Written}
 use Rattle.walks.proofs.Steps.{reach-bare}
 use Rattle.walks.proofs.Longest.{longest-whole}
+use Rattle.table.specs.declared.Head.{Head}
 use Rattle.table.proofs.Fitness.{Fitting, fitting-fit}
+use Rattle.table.proofs.Heads.{over, Headed}
 use Rattle.records.specs.Bytes.{heldFrom, heldCount, decode, tidy}
-use Rattle.predictor.specs.Calls.{endRefusal}
-use Rattle.predictor.specs.Parts.{openSets}
-use Rattle.predictor.proofs.Standing.{Standing}
+use Rattle.predictor.specs.declared.Ended.the-variants.{Open, Refused}
+use Rattle.predictor.specs.Calls.{endRefusal, Ends}
+use Rattle.predictor.specs.inner.Parts.{standing, openSets}
+use Rattle.predictor.proofs.Standing.{by-table, Standing, standing-some, standing-none}
 
 -- THE POSITIONS THAT ARE NOT RESOLVED are the last ones
 
@@ -86,27 +89,57 @@ module _ {n m k here from : ℕ} {sets bytes part : List ℕ} (starts : ℕ) (f 
   pub held-whole : {g : ℕ} → g ≡ longest (successors n m from sets) part → take g part ≡ part
   held-whole = longest-whole _ (fit-within _ _ _ _ f below) part reached
 
--- REFUSALS
+-- WHAT IS ANSWERED
 
 module _ (table bytes : List ℕ) (sets : ℕ) where
-  pub end-8 : unfit table ≡ true → 8 ≡ endRefusal table bytes sets
+  -- no refusal applies
+  pub end-0 : Fitting table → (ltb (length bytes) (heldFrom + lookaheadOf table) || ltb sets (lookaheadOf table)) ≡ false
+      → tidy (lookaheadOf table) bytes ≡ true → sound (tableMeaning table) (lookaheadOf table) (decode bytes) ≡ true → endRefusal table bytes sets ≡ 0
   unfolding endRefusal
-  end-8 e = rw e
+  end-0 f e t s = rw (fitting-fit f, e, t, s)
 
-  module _ (f : Fitting table) where
-    pub end-9 : (ltb (length bytes) (heldFrom + lookaheadOf table) || ltb sets (lookaheadOf table)) ≡ true → 9 ≡ endRefusal table bytes sets
+module _ (table bytes old : List ℕ) where
+  pub end-8 : unfit table ≡ true → Ends table bytes (Refused 8) old old
+  unfolding endRefusal
+  end-8 e = (rw e, λ z. omega arith, refl)
+
+  module _ {head : Head} (h : Headed table head) where
+    abbrev short : Bool
+    short = ltb (length bytes) (heldFrom + head .k) || ltb (length old) (head .k)
+
+    pub end-9 : short ≡ true → Ends table bytes (Refused 9) old old
     unfolding endRefusal
-    end-9 e = rw (fitting-fit f, e)
+    end-9 e = (rw (h .sound, rw (h .k-is) at e), λ z. omega arith, refl)
 
-    module _ (e : (ltb (length bytes) (heldFrom + lookaheadOf table) || ltb sets (lookaheadOf table)) ≡ false) where
-      pub end-10 : (tidy (lookaheadOf table) bytes && sound (tableMeaning table) (lookaheadOf table) (decode bytes)) ≡ false → 10 ≡ endRefusal table bytes sets
-      unfolding endRefusal
-      end-10 d = go (tidy (lookaheadOf table) bytes) refl d
+    -- the buffers are long enough
+    module _ (e : short ≡ false) where
+      pub long : (heldFrom + head .k ≤ length bytes) × (head .k ≤ length old)
+      long = go (ltb (length bytes) (heldFrom + head .k)) refl e
         where
-          go : (t : Bool) → tidy (lookaheadOf table) bytes ≡ t → (t && sound (tableMeaning table) (lookaheadOf table) (decode bytes)) ≡ false → 10 ≡ endRefusal table bytes sets
-          go false t d = rw (endRefusal, fitting-fit f, e, t)
-          go true t d = rw (endRefusal, fitting-fit f, e, t, d)
+          go : (t : Bool) → ltb (length bytes) (heldFrom + head .k) ≡ t → (t || ltb (length old) (head .k)) ≡ false
+              → (heldFrom + head .k ≤ length bytes) × (head .k ≤ length old)
+          go true t e = absurd (true≢false e)
+          go false t e = (ltb-false _ _ t, ltb-false _ _ e)
 
-      pub end-0 : tidy (lookaheadOf table) bytes ≡ true → sound (tableMeaning table) (lookaheadOf table) (decode bytes) ≡ true → endRefusal table bytes sets ≡ 0
-      unfolding endRefusal
-      end-0 t s = rw (fitting-fit f, e, t, s)
+      module _ {here : ℕ} (at : here ≡ standing (over table head (head .starts)) (head .k) bytes) where
+        abbrev S : Semiautomaton
+        S = tableMeaning table
+
+        same : (head .k ≡ lookaheadOf table) × (here ≡ standing S (lookaheadOf table) bytes)
+        same = (h .k-is, rw (h .k-is) at (subst (λ (S : Semiautomaton). here ≡ standing S (head .k) bytes) (h .means) at))
+
+        pub end-10 : here ≡ 0 → Ends table bytes (Refused 10) old old
+        unfolding endRefusal
+        end-10 z =
+            let d = standing-none (by-table (h .fits)) (lookaheadOf table) bytes (rw (h .k-is) at (long .0)) (same .1) z in
+            (rw (h .sound, rw (h .k-is) at e, d), λ z. omega arith, refl)
+
+        pub end-on : ¬ (here ≡ 0) → {count : ℕ} {out : List ℕ} → let opens = openSets (over table head (head .starts)) (head .k) bytes in
+            (count ≡ length opens) × (out ≡ opens ++ drop (length opens) old) → Ends table bytes (Open count) old out
+        unfolding openSets
+        end-on n {count} {out} r =
+            let s = standing-some (by-table (h .fits)) (lookaheadOf table) bytes (rw (h .k-is) at (long .0)) (same .1) n in
+            let opens : Semiautomaton → ℕ → Type 0 = λ S k. (count ≡ length (openSets S k bytes)) × (out ≡ openSets S k bytes ++ drop (length (openSets S k bytes)) old) in (
+              end-0 table bytes (length old) (h .fits) (rw (h .k-is) at e) (s .tidied) (s .is-sound),
+              rw (h .k-is) at (subst (λ (S : Semiautomaton). opens S (head .k)) (h .means) r),
+            )

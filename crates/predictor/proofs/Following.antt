@@ -7,7 +7,6 @@ use mathlib.Core.Path.{_≡_, refl, _∙_, ap}
 use mathlib.Core.List.{List, [], _∷_, _++_}
 use native.Mathlib.Omega.{arith}
 use lib.ListN.{length, drop, length-append, length-drop}
-use borrow.Author.Tests.{le-ltb}
 use Rattle.semiautomata.specs.Semiautomaton.{Semiautomaton, Within}
 use Rattle.semiautomata.specs.Predictability.{Predictable}
 use Rattle.streaming.specs.Calls.{Reply, refused, resolved, nothing, Result}
@@ -18,6 +17,7 @@ use Rattle.streaming.proofs.Streaming.{Follows}
 use Rattle.table.specs.Table.{lookaheadOf, tableMeaning, unfit}
 use Rattle.records.specs.Bytes.{heldFrom, decode, tidy, encode}
 use Rattle.predictor.specs.Calls.{written, onto, openedOn, fedOn}
+use Rattle.predictor.proofs.Tables.{opened-on, fed-on}
 use Rattle.records.proofs.Bytes.{decode-encode, tidy-encode, length-encode}
 
 -- the bytes hold the record r for k
@@ -68,12 +68,10 @@ module _ (table : List ℕ) (fit : unfit table ≡ false) where
 
   -- where neither 8 nor 9 applies, and the bytes hold a record
   pub opened-is : (bytes : List ℕ) → heldFrom + k ≤ length bytes → openedOn table bytes ≡ onto k bytes (opened S k)
-  unfolding openedOn
-  opened-is bytes h = rw (fit, le-ltb (length bytes) (heldFrom + k) h)
+  opened-is bytes h = opened-on table bytes fit h
 
   pub fed-is : (bytes : List ℕ) (r : Rec) (a : ℕ) → Holds k bytes r → fedOn table bytes a ≡ onto k bytes (feed S k r a)
-  unfolding fedOn
-  fed-is bytes r a h = rw (fit, le-ltb (length bytes) (heldFrom + k) (h .room), h .tidied, h .is)
+  fed-is bytes r a h = fed-on table bytes fit (h .room) a (h .tidied) ∙ ap (λ (r : Rec). onto k bytes (feed S k r a)) (h .is)
 
   module _ (W : Within S) (P : Predictable S k) (few : k < 2 ^ 16) where
     pub follows-small : (r : Rec) (w : List ℕ) → Follows S W k P r w → Small k r

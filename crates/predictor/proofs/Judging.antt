@@ -10,7 +10,7 @@ use native.Mathlib.Omega.{arith}
 use lib.Dec.{eqb, ltb, leb}
 use lib.ListN.{length, take, drop, take-append-drop}
 use lib.Seq.{take-length, take-append-le, drop-append-le, drop-nil}
-use borrow.Author.Tests.{lt-ltb, le-ltb, le-leb, lt-leb, eqb-true, eqb-false, leb-false, ltb-true, ltb-false}
+use borrow.Author.Tests.{lt-ltb, le-ltb, le-leb, lt-leb, eqb-true, eqb-false, leb-false, ltb-true, ltb-false, not-false}
 use Rattle.bitset.specs.Sets.{any, size}
 use Rattle.bitset.specs.Numbers.{has, setOf}
 use Rattle.bitset.proofs.Tests.{and-in, and-out, decided, same-test}
@@ -20,20 +20,22 @@ use Rattle.bitset.proofs.Members.{ones-size}
 use Rattle.semiautomata.specs.Semiautomaton.{Semiautomaton, Within}
 use Rattle.semiautomata.specs.Walks.{spells, step, reach, survivors, walkable, possible}
 use Rattle.semiautomata.specs.Successors.{successors}
-use Rattle.streaming.specs.Calls.{Reply, refused, resolved, nothing, checked}
+use Rattle.streaming.specs.Calls.{Reply, refused, resolved, nothing, Result, checked}
 use Rattle.refusals.specs.Checks.{Check}
 use Rattle.streaming.specs.PlainWalk.{limit}
 use Rattle.streaming.specs.Streaming.{Rec, base, sound, latest, soleAt, resolve, settle, after}
-use Rattle.streaming.specs.Streaming.{unopened, openChecks, opened, feed, feedChecks}
+use Rattle.streaming.specs.Streaming.{unopened, openChecks, opened, settledBy}
+use Rattle.refusals.proofs.First.{Passed}
 use Rattle.semiautomata.proofs.Computed.{reach-out, spells-in, reach-append, walkable-reach}
 use Rattle.semiautomata.proofs.Paths.{path-lt}
 use Rattle.streaming.proofs.Streaming.{length-snoc}
 use Rattle.walks.proofs.Steps.{reach-bare, step-members}
 use Rattle.walks.proofs.Words.{some-of, none-of, possible-last}
 use Rattle.records.specs.Bytes.{decode, tidy}
+use Rattle.predictor.specs.Replies.{isRefusal}
 use Rattle.predictor.specs.Calls.{written, onto}
-use Rattle.records.specs.Taking.{takenInto, startedInto}
-use Rattle.predictor.specs.Parts.{resolving, opening, judged, isRefusal, lastAfter, fedInto, openedInto, Ready}
+use Rattle.records.specs.inner.Taking.{takenInto, startedInto}
+use Rattle.predictor.specs.inner.Parts.{resolving, opening, judgeChecks, judged, lastAfter, fedInto, openedInto, Ready}
 use Rattle.predictor.proofs.Standing.{By, base-below, Standing}
 
 -- THE POSITION THAT IS DUE
@@ -93,14 +95,11 @@ resolving-is S small X w i position {set} e = go (decided (eqb (size (S .n) (pos
         rw (resolving, e, least-sole 64 _ x v, size-wide (S .n) (possible S X w i) small, soleAt, q, least-sole (S .n) (possible S X w i) x s)
 
 -- A LETTER, where neither 8 nor 9 applies
-module _ (S : Semiautomaton) (k : ℕ) (bytes : List ℕ) (a : ℕ) where
-  pub judged-10 : (tidy k bytes && sound S k (decode bytes)) ≡ false → refused 10 ≡ judged S k bytes a .reply
-  unfolding judged feed
-  judged-10 e = go (tidy k bytes) refl e
-    where
-      go : (t : Bool) → tidy k bytes ≡ t → (t && sound S k (decode bytes)) ≡ false → refused 10 ≡ judged S k bytes a .reply
-      go false t e = rw (judged, t)
-      go true t e = rw (judged, t, feed, e)
+
+pub judged-10 : (S : Semiautomaton) (k : ℕ) (bytes : List ℕ) (a : ℕ) → (tidy k bytes && sound S k (decode bytes)) ≡ false
+    → refused 10 ≡ judged S k bytes a .reply
+unfolding judged
+judged-10 S k bytes a e = rw e
 
 -- what the held letters and the new one lead to
 pub reached : {S : Semiautomaton} {k here : ℕ} {bytes : List ℕ} → Standing S k bytes here → (a : ℕ) {next : ℕ} → next ≡ setOf (S .n) (step S (has here) a)
@@ -119,26 +118,26 @@ reached-from n m starts others sets from a {part = part} s is held e =
 
 module _ {S : Semiautomaton} {k here starts : ℕ} {bytes : List ℕ} (s : Standing S k bytes here) (b : By S starts) (a : ℕ) where
   pub judged-11 : limit ≤ decode bytes .fed → refused 11 ≡ judged S k bytes a .reply
-  unfolding judged feed
-  judged-11 h = rw (s .tidied, feed, s .is-sound, le-leb limit (decode bytes .fed) h)
+  unfolding judged
+  judged-11 h = rw (s .tidied, s .is-sound, le-leb limit (decode bytes .fed) h)
 
   module _ (h : decode bytes .fed < limit) where
     pub judged-12 : S .m ≤ a → refused 12 ≡ judged S k bytes a .reply
-    unfolding judged feed
-    judged-12 g = rw (s .tidied, feed, s .is-sound, lt-leb limit (decode bytes .fed) h, le-leb (S .m) a g)
+    unfolding judged
+    judged-12 g = rw (s .tidied, s .is-sound, lt-leb limit (decode bytes .fed) h, le-leb (S .m) a g)
 
     module _ (g : a < S .m) {next : ℕ} (step-is : next ≡ setOf (S .n) (step S (has here) a)) where
       walks : walkable S (base S k (decode bytes)) (decode bytes .held ++ (a ∷ [])) ≡ any (S .n) (reach S (base S k (decode bytes)) (decode bytes .held ++ (a ∷ [])))
       walks = walkable-reach S (b .within) (base S k (decode bytes)) (base-below b k (decode bytes) (s .keeps .last-lt)) (decode bytes .held ++ (a ∷ []))
 
       pub judged-13 : next ≡ 0 → refused 13 ≡ judged S k bytes a .reply
-      unfolding judged feed
-      judged-13 z = rw (s .tidied, feed, s .is-sound, lt-leb limit (decode bytes .fed) h, lt-leb (S .m) a g, walks ∙ none-of (S .n) _ (reached s a step-is) z)
+      unfolding judged
+      judged-13 z = rw (s .tidied, s .is-sound, lt-leb limit (decode bytes .fed) h, lt-leb (S .m) a g, walks ∙ none-of (S .n) _ (reached s a step-is) z)
 
       module _ (some : ¬ (next ≡ 0)) where
         settles : judged S k bytes a .reply ≡ settle S k (base S k (decode bytes)) (suc (decode bytes .fed)) (decode bytes .held ++ (a ∷ []))
-        unfolding judged feed
-        settles = rw (s .tidied, feed, s .is-sound, lt-leb limit (decode bytes .fed) h, lt-leb (S .m) a g, walks ∙ some-of (S .n) _ (reached s a step-is) some)
+        unfolding judged
+        settles = rw (s .tidied, s .is-sound, lt-leb limit (decode bytes .fed) h, lt-leb (S .m) a g, walks ∙ some-of (S .n) _ (reached s a step-is) some)
 
         pub judged-nothing : suc (decode bytes .fed) < k → nothing ≡ judged S k bytes a .reply
         unfolding settle
@@ -157,40 +156,42 @@ module _ {S : Semiautomaton} {k here starts : ℕ} {bytes : List ℕ} (s : Stand
 
 -- WHAT IS LEFT
 
--- a call with refusals leaves what its reply leaves
-checked-state : (cs : List Check) (r : Rec) (left : Reply → Rec) → ((number : ℕ) → left (refused number) ≡ r) → (v : Reply)
-    → checked cs r (record { reply = v; state = left v }) .state ≡ left (checked cs r (record { reply = v; state = left v }) .reply)
-checked-state [] r left h v = refl
-checked-state (c ∷ cs) r left h v = go (c .applies) (checked-state cs r left h v)
-  where
-    go : (b : Bool) → checked cs r (record { reply = v; state = left v }) .state ≡ left (checked cs r (record { reply = v; state = left v }) .reply)
-        → cond b (record { reply = refused (c .number); state = r }) (checked cs r (record { reply = v; state = left v })) .state
-        ≡ left (cond b (record { reply = refused (c .number); state = r }) (checked cs r (record { reply = v; state = left v })) .reply)
-    go true ih = sym (h (c .number))
-    go false ih = ih
+-- a call with refusals leaves what its reply leaves, and one that is not refused has passed them all
+module _ {A : Type 0} (state : A) (left : Reply → A) (h : (number : ℕ) → left (refused number) ≡ state) (v : Reply) where
+  abbrev given : List Check → Result A
+  given cs = checked cs state (record { reply = v; state = left v })
+
+  pub checked-state : (cs : List Check) → given cs .state ≡ left (given cs .reply)
+  checked-state [] = refl
+  checked-state (c ∷ cs) = go (c .applies) (checked-state cs)
+    where
+      go : (b : Bool) → given cs .state ≡ left (given cs .reply)
+          → let r = cond b (record { reply = refused (c .number); state = state }) (given cs) in r .state ≡ left (r .reply)
+      go true ih = sym (h (c .number))
+      go false ih = ih
+
+  pub checked-passed : (cs : List Check) → isRefusal (given cs .reply) ≡ false → Passed cs
+  checked-passed [] e = tt
+  checked-passed (c ∷ cs) e = go (c .applies) refl (checked-passed cs) e
+    where
+      go : (b : Bool) → c .applies ≡ b → (isRefusal (given cs .reply) ≡ false → Passed cs)
+          → isRefusal (cond b (record { reply = refused (c .number); state = state }) (given cs) .reply) ≡ false → Passed (c ∷ cs)
+      go true e ih d = absurd (true≢false d)
+      go false e ih d = (e, ih d)
 
 module _ (S : Semiautomaton) (k : ℕ) (bytes : List ℕ) (a : ℕ) where
+  abbrev settling : Reply
+  settling = settledBy S k (decode bytes) a .reply
+
   pub judged-state : judged S k bytes a .state ≡ fedInto k bytes a (judged S k bytes a .reply)
-  unfolding judged feed fedInto
-  judged-state = go (tidy k bytes) refl
-    where
-      go : (t : Bool) → tidy k bytes ≡ t → judged S k bytes a .state ≡ fedInto k bytes a (judged S k bytes a .reply)
-      go false t = rw (judged, t, fedInto)
-      go true t = rw (judged, t, fedInto) (ap (λ (r : Rec). written k bytes r (feed S k (decode bytes) a .reply))
-          (checked-state (feedChecks S k (decode bytes) a) (decode bytes) (after k (decode bytes) (suc (decode bytes .fed)) (decode bytes .held ++ (a ∷ []))) (λ _. refl)
-          (settle S k (base S k (decode bytes)) (suc (decode bytes .fed)) (decode bytes .held ++ (a ∷ [])))))
+  unfolding judged fedInto
+  judged-state = checked-state bytes (fedInto k bytes a) (λ number. refl) settling (judgeChecks S k bytes a)
 
   pub judged-ready : S .m ≤ 32 → Ready k bytes a (judged S k bytes a .reply)
-  unfolding judged feed
-  judged-ready few = go (tidy k bytes) (sound S k (decode bytes)) (leb limit (decode bytes .fed)) (leb (S .m) a) refl refl refl refl
-    where
-      go : (t o l h : Bool) → tidy k bytes ≡ t → sound S k (decode bytes) ≡ o → leb limit (decode bytes .fed) ≡ l → leb (S .m) a ≡ h
-          → Ready k bytes a (judged S k bytes a .reply)
-      go false o l h t q f g e = let z : true ≡ false = rw (judged, t) at e in absurd (true≢false z)
-      go true false l h t q f g e = let z : true ≡ false = rw (judged, t, feed, q) at e in absurd (true≢false z)
-      go true true true h t q f g e = let z : true ≡ false = rw (judged, t, feed, q, f) at e in absurd (true≢false z)
-      go true true false true t q f g e = let z : true ≡ false = rw (judged, t, feed, q, f, g) at e in absurd (true≢false z)
-      go true true false false t q f g e = (t, leb-false _ _ f, omega (arith, leb-false (S .m) a g))
+  unfolding judged fedInto
+  judged-ready few e =
+      let (t, (l, (m, _))) = checked-passed bytes (fedInto k bytes a) (λ number. refl) settling (judgeChecks S k bytes a) e in
+      (and-out _ _ (not-false _ t) .0, leb-false _ _ l, omega (arith, leb-false (S .m) a m))
 
 -- a refusal keeps the bytes
 pub fed-kept : (k : ℕ) (bytes : List ℕ) (a : ℕ) (reply : Reply) → isRefusal reply ≡ true → bytes ≡ fedInto k bytes a reply
@@ -221,14 +222,11 @@ opened-taken k bytes (resolved i x) e = let none : latest k [] ≡ [] = drop-nil
 opened-taken k bytes nothing e = let none : latest k [] ≡ [] = drop-nil (0 - k) in rw none
 
 module _ (S : Semiautomaton) (k : ℕ) where
-  opened-left : opened S k .state ≡ after k unopened 0 [] (opened S k .reply)
-  unfolding opened
-  opened-left =
-      checked-state (openChecks S) unopened (after k unopened 0 []) (λ _. refl) (settle S k (S .initial) 0 [])
-
   pub opened-state : (bytes : List ℕ) → onto k bytes (opened S k) .state ≡ openedInto k bytes (opened S k .reply)
-  unfolding openedInto
-  opened-state bytes = ap (λ (r : Rec). written k bytes r (opened S k .reply)) opened-left
+  unfolding opened openedInto
+  opened-state bytes =
+      ap (λ (r : Rec). written k bytes r (opened S k .reply))
+      (checked-state unopened (after k unopened 0 []) (λ _. refl) (settle S k (S .initial) 0 []) (openChecks S))
 
   module _ {starts : ℕ} (b : By S starts) where
     start-set : starts ≡ setOf (S .n) (possible S (S .initial) [] 0)

@@ -1,70 +1,96 @@
--- What a table that is not refused gives the calls, and the calls' refusals 8 and 9.
+-- What opening and a letter fed give, test by test; the head of their table is at hand.
 -- Assumes nothing.
-use Prim.Native.Nat.{ℕ, _+_, _-_, _≤_, _<_}
-use mathlib.Core.Bool.{Bool, true, false, _||_, true≢false}
-use mathlib.Core.Path.{_≡_, refl, sym, ap}
-use mathlib.Core.List.{List}
+use Prim.Native.Nat.{ℕ, suc, _+_, _≤_, _<_}
+use mathlib.Core.Bool.{Bool, true, false, cond}
+use mathlib.Core.Path.{_≡_, refl, sym, _∙_, ap, subst}
+use mathlib.Core.List.{List, [], _∷_, _++_}
 use native.Mathlib.Omega.{arith}
 use lib.Dec.{ltb}
-use lib.ListN.{length, take, drop}
-use borrow.Author.Tests.{ltb-false, lt-ltb, le-ltb}
-use Rattle.streaming.specs.Calls.{refused, Result}
-use Rattle.streaming.specs.Streaming.{opened}
-use Rattle.table.specs.Table.{lookaheadOf, setsFrom, setsOf, tableMeaning, unfit}
-use Rattle.table.proofs.Fitness.{Fitting, fitting-fit, pairs-le}
-use Rattle.records.specs.Bytes.{heldFrom}
-use Rattle.predictor.specs.Calls.{onto, openedOn, fedOn}
-use Rattle.predictor.specs.Parts.{judged}
-use Rattle.records.proofs.Bytes.{part-whole}
+use lib.ListN.{length}
+use borrow.Author.Tests.{lt-ltb, le-ltb}
+use Rattle.semiautomata.specs.Semiautomaton.{Semiautomaton}
+use Rattle.streaming.specs.Calls.{refused, Result, checked}
+use Rattle.refusals.specs.Checks.{Check}
+use Rattle.streaming.specs.Streaming.{Rec, opened, openChecks, unopened, settled, feed, feedChecks, settledBy}
+use Rattle.table.specs.declared.Head.{Head}
+use Rattle.table.specs.Table.{lookaheadOf, initialOf, tableMeaning, unfit}
+use Rattle.table.proofs.Heads.{over, Headed}
+use Rattle.records.specs.Bytes.{heldFrom, decode, tidy}
+use Rattle.predictor.specs.declared.Answer.{Answer}
+use Rattle.predictor.specs.declared.Answer.the-variants.{Refused}
+use Rattle.predictor.specs.Replies.{said}
+use Rattle.predictor.specs.Calls.{onto, openedOn, fedOn, Opens, Feeds}
+use Rattle.predictor.specs.inner.Parts.{judged, opening, fedInto, openedInto}
+use Rattle.predictor.proofs.Standing.{by-table}
+use Rattle.predictor.proofs.Judging.{opening-is, opened-state, judged-state}
 
--- a call's reply and state, from what it gives
-pub as-given : {A : Type 0} {done given : Result A} → given ≡ done → (done .reply ≡ given .reply) × (done .state ≡ given .state)
-as-given {A} e = (ap (λ (r : Result A). r .reply) (sym e), ap (λ (r : Result A). r .state) (sym e))
-
-module _ {table : List ℕ} (f : Fitting table) where
-  pub lookahead-le : lookaheadOf table ≤ 2016
-  lookahead-le =
-      let p = pairs-le {table = table} (record { some-state = f .some-state; states = f .states; some-letter = f .some-letter; letters = f .letters }) in
-      omega (arith, p, f .lookahead)
-
-  pub front : setsFrom ≤ length table
-  front = omega (arith, f .room)
-
-  -- the sets lent to a call's parts
-  pub lent : take (length table - setsFrom) (drop setsFrom table) ≡ setsOf table
-  lent = part-whole setsFrom (length table - setsFrom) table (omega (arith, front))
-
--- neither test of refusal 9 of an ending holds
-pub both-long : (a b c d : ℕ) → (ltb a b || ltb c d) ≡ false → (b ≤ a) × (d ≤ c)
-both-long a b c d e = go (ltb a b) refl e
+-- refusals of a record leave its bytes
+onto-checked : (k : ℕ) (bytes : List ℕ) (cs : List Check) (r : Rec) (done : Result Rec)
+    → checked cs bytes (onto k bytes done) ≡ onto k bytes (checked cs r done)
+onto-checked k bytes [] r done = refl
+onto-checked k bytes (c ∷ cs) r done = go (c .applies) (onto-checked k bytes cs r done)
   where
-    go : (t : Bool) → ltb a b ≡ t → (t || ltb c d) ≡ false → (b ≤ a) × (d ≤ c)
-    go true t e = absurd (true≢false e)
-    go false t e = (ltb-false a b t, ltb-false c d e)
+    go : (b : Bool) → checked cs bytes (onto k bytes done) ≡ onto k bytes (checked cs r done)
+        → cond b (record { reply = refused (c .number); state = bytes }) (checked cs bytes (onto k bytes done))
+        ≡ onto k bytes (cond b (record { reply = refused (c .number); state = r }) (checked cs r done))
+    go true ih = refl
+    go false ih = ih
 
 module _ (table bytes : List ℕ) where
-  pub opened-8 : unfit table ≡ true → openedOn table bytes ≡ record { reply = refused 8; state = bytes }
+  pub open-8 : unfit table ≡ true → Opens table bytes (Refused 8) bytes
   unfolding openedOn
-  opened-8 e = rw e
+  open-8 e = rw e (refl, refl)
 
-  pub fed-8 : (a : ℕ) → unfit table ≡ true → fedOn table bytes a ≡ record { reply = refused 8; state = bytes }
+  pub feed-8 : (a : ℕ) → unfit table ≡ true → Feeds table bytes a (Refused 8) bytes
   unfolding fedOn
-  fed-8 a e = rw e
+  feed-8 a e = rw e (refl, refl)
 
-  module _ (f : Fitting table) where
-    pub opened-9 : length bytes < heldFrom + lookaheadOf table → openedOn table bytes ≡ record { reply = refused 9; state = bytes }
+  -- what is settled in bytes is what is settled in a record
+  module _ (f : unfit table ≡ false) (room : heldFrom + lookaheadOf table ≤ length bytes) where
+    pub opened-on : openedOn table bytes ≡ onto (lookaheadOf table) bytes (opened (tableMeaning table) (lookaheadOf table))
+    unfolding openedOn opened
+    opened-on = rw (f, le-ltb (length bytes) (heldFrom + lookaheadOf table) room) (onto-checked _ bytes (openChecks (tableMeaning table)) unopened _)
+
+    pub judged-on : (a : ℕ) → fedOn table bytes a ≡ judged (tableMeaning table) (lookaheadOf table) bytes a
+    unfolding fedOn judged
+    judged-on a = rw (f, le-ltb (length bytes) (heldFrom + lookaheadOf table) room)
+
+    pub fed-on : (a : ℕ) → tidy (lookaheadOf table) bytes ≡ true
+        → fedOn table bytes a ≡ onto (lookaheadOf table) bytes (feed (tableMeaning table) (lookaheadOf table) (decode bytes) a)
+    unfolding fedOn feed
+    fed-on a t =
+        rw (f, le-ltb (length bytes) (heldFrom + lookaheadOf table) room, t)
+        (onto-checked _ bytes (feedChecks (tableMeaning table) (lookaheadOf table) (decode bytes) a) (decode bytes) _)
+
+  module _ {head : Head} (h : Headed table head) where
+    short : length bytes < heldFrom + head .k → ltb (length bytes) (heldFrom + lookaheadOf table) ≡ true
+    short e = lt-ltb (length bytes) (heldFrom + lookaheadOf table) (rw (h .k-is) at e)
+
+    pub open-9 : length bytes < heldFrom + head .k → Opens table bytes (Refused 9) bytes
     unfolding openedOn
-    opened-9 h = rw (fitting-fit f, lt-ltb (length bytes) (heldFrom + lookaheadOf table) h)
+    open-9 e = rw (h .sound, short e) (refl, refl)
 
-    pub fed-9 : (a : ℕ) → length bytes < heldFrom + lookaheadOf table → fedOn table bytes a ≡ record { reply = refused 9; state = bytes }
+    pub feed-9 : (a : ℕ) → length bytes < heldFrom + head .k → Feeds table bytes a (Refused 9) bytes
     unfolding fedOn
-    fed-9 a h = rw (fitting-fit f, lt-ltb (length bytes) (heldFrom + lookaheadOf table) h)
+    feed-9 a e = rw (h .sound, short e) (refl, refl)
 
-    module _ (h : heldFrom + lookaheadOf table ≤ length bytes) where
-      pub opened-on : openedOn table bytes ≡ onto (lookaheadOf table) bytes (opened (tableMeaning table) (lookaheadOf table))
-      unfolding openedOn
-      opened-on = rw (fitting-fit f, le-ltb (length bytes) (heldFrom + lookaheadOf table) h)
+    module _ (room : heldFrom + head .k ≤ length bytes) (answer : Answer) {left : List ℕ} where
+      pub open-on : said answer ≡ opening (head .k) (head .starts) → left ≡ openedInto (head .k) bytes (said answer) → Opens table bytes answer left
+      open-on e d =
+          let S = tableMeaning table in
+          let k = lookaheadOf table in
+          let on = opened-on (h .sound) (rw (h .k-is) at room) in
+          let reply : said answer ≡ opened S k .reply = (rw (h .k-is, h .starts-is) at e) ∙ opening-is S k (by-table (h .fits)) in
+          let into : left ≡ openedInto k bytes (said answer) = rw (h .k-is) at d in
+          rw on (reply, into ∙ ap (openedInto k bytes) reply ∙ sym (opened-state S k bytes))
 
-      pub fed-on : (a : ℕ) → fedOn table bytes a ≡ judged (tableMeaning table) (lookaheadOf table) bytes a
-      unfolding fedOn judged
-      fed-on a = rw (fitting-fit f, le-ltb (length bytes) (heldFrom + lookaheadOf table) h)
+      pub feed-on : (a : ℕ) → said answer ≡ judged (over table head (head .starts)) (head .k) bytes a .reply
+          → left ≡ fedInto (head .k) bytes a (said answer) → Feeds table bytes a answer left
+      feed-on a e d =
+          let S = tableMeaning table in
+          let k = lookaheadOf table in
+          let on = judged-on (h .sound) (rw (h .k-is) at room) a in
+          let reply : said answer ≡ judged S k bytes a .reply =
+          rw (h .k-is) at (subst (λ (S : Semiautomaton). said answer ≡ judged S (head .k) bytes a .reply) (h .means) e) in
+          let into : left ≡ fedInto k bytes a (said answer) = rw (h .k-is) at d in
+          rw on (reply, into ∙ ap (fedInto k bytes a) reply ∙ sym (judged-state S k bytes a))

@@ -1,18 +1,19 @@
--- Opening, a letter fed and ending over a table and record bytes: refusals 8 and 9 of the buffers, then the rules of
+-- Opening, a letter fed and ending over a table and record bytes: their refusals in order, then the rules of
 -- crates/semiautomata/specs/Streaming on what the bytes hold.
 -- Assumes nothing.
 use Prim.Native.Nat.{ℕ, _+_}
-use mathlib.Core.Bool.{not, _||_}
+use mathlib.Core.Bool.{not, _&&_, _||_}
 use mathlib.Core.Path.{_≡_}
 use mathlib.Core.List.{List, [], _∷_, _++_, map}
 use lib.Dec.{ltb}
 use lib.ListN.{length, drop}
 use Rattle.bitset.specs.Numbers.{setOf}
+use Rattle.semiautomata.specs.Semiautomaton.{Semiautomaton}
 use Rattle.streaming.specs.Calls.{Reply, refused, resolved, nothing, Result, checked}
 use Rattle.refusals.specs.Checks.{Check, firstOf}
 use Rattle.refusals.specs.Outcomes.{Outcome, answered, Gives}
 use Rattle.refusals.specs.Outcomes as outcomes
-use Rattle.streaming.specs.Streaming.{Rec, openChecks, opened, feedChecks, feed, finish, soundCheck}
+use Rattle.streaming.specs.Streaming.{Rec, sound, unopened, openChecks, settled, takeChecks, settledBy, finish}
 use Rattle.table.specs.Table.{statesOf, lookaheadOf, tableMeaning, unfit}
 use Rattle.predictor.specs.declared.Answer.{Answer}
 use Rattle.predictor.specs.Replies.{said}
@@ -20,29 +21,26 @@ use Rattle.predictor.specs.declared.Ended.{Ended}
 use Rattle.predictor.specs.declared.Ended.the-variants.{Open, Refused}
 use Rattle.records.specs.Bytes.{heldFrom, decode, tidy, encode}
 
--- 8, of the table; 9, of the record: fewer than 8 + k bytes; 10, of its layout.
+-- 8, of the table; 9, of the record: fewer than 8 + k bytes; 10: bytes that break the layout, or that hold a record that is not sound.
 abbrev pub tableCheck : List ℕ → Check
 tableCheck table = record { number = 8; applies = unfit table }
 
 abbrev pub recordCheck : List ℕ → List ℕ → Check
 recordCheck table bytes = record { number = 9; applies = ltb (length bytes) (heldFrom + lookaheadOf table) }
 
-abbrev pub tidyCheck : List ℕ → List ℕ → Check
-tidyCheck table bytes = record { number = 10; applies = not (tidy (lookaheadOf table) bytes) }
+abbrev pub bytesCheck : Semiautomaton → ℕ → List ℕ → Check
+bytesCheck S k bytes = record { number = 10; applies = not (tidy k bytes && sound S k (decode bytes)) }
 
--- The refusals of what is lent: to opening, and to a letter.
-abbrev pub lentChecks : List ℕ → List ℕ → List Check
-lentChecks table bytes = tableCheck table ∷ recordCheck table bytes ∷ []
-
-abbrev pub bytesChecks : List ℕ → List ℕ → List Check
-bytesChecks table bytes = tableCheck table ∷ recordCheck table bytes ∷ tidyCheck table bytes ∷ []
-
--- With those of the record's rules, all that stand before 14, in order.
+-- The refusals of opening, and of a letter, that stand before 14, in order.
 abbrev pub openingChecks : List ℕ → List ℕ → List Check
-openingChecks table bytes = lentChecks table bytes ++ openChecks (tableMeaning table)
+openingChecks table bytes = tableCheck table ∷ recordCheck table bytes ∷ openChecks (tableMeaning table)
 
 abbrev pub letterChecks : List ℕ → List ℕ → ℕ → List Check
-letterChecks table bytes a = bytesChecks table bytes ++ feedChecks (tableMeaning table) (lookaheadOf table) (decode bytes) a
+letterChecks table bytes a =
+    tableCheck table
+    ∷ recordCheck table bytes
+    ∷ bytesCheck (tableMeaning table) (lookaheadOf table) bytes
+    ∷ takeChecks (tableMeaning table) (lookaheadOf table) (decode bytes) a
 
 -- What is written of a reply: nothing under a refusal, else the record's bytes, the rest of the buffer as it was.
 abbrev pub written : ℕ → List ℕ → Rec → Reply → List ℕ
@@ -53,14 +51,17 @@ written k bytes r nothing = encode k r ++ drop (heldFrom + k) bytes
 abbrev pub onto : ℕ → List ℕ → Result Rec → Result (List ℕ)
 onto k bytes done = record { reply = done .reply; state = written k bytes (done .state) (done .reply) }
 
+-- Opening, and a letter fed: the first refusal that applies, or what the streaming rule settles, laid out in bytes.
 unfoldable pub openedOn : List ℕ → List ℕ → Result (List ℕ)
 openedOn table bytes =
-    checked (lentChecks table bytes) bytes (onto (lookaheadOf table) bytes (opened (tableMeaning table) (lookaheadOf table)))
+    let S = tableMeaning table in
+    let k = lookaheadOf table in
+    checked (openingChecks table bytes) bytes (onto k bytes (settled S k (S .initial) unopened 0 []))
 
 unfoldable pub fedOn : List ℕ → List ℕ → ℕ → Result (List ℕ)
 fedOn table bytes a =
-    checked (bytesChecks table bytes) bytes
-    (onto (lookaheadOf table) bytes (feed (tableMeaning table) (lookaheadOf table) (decode bytes) a))
+    let k = lookaheadOf table in
+    checked (letterChecks table bytes a) bytes (onto k bytes (settledBy (tableMeaning table) k (decode bytes) a))
 
 -- What opening, and a letter fed, gives: this answer, and these bytes left in the record.
 abbrev pub Opens : List ℕ → List ℕ → Answer → List ℕ → Type 0
@@ -74,8 +75,7 @@ abbrev pub endChecks : List ℕ → List ℕ → ℕ → List Check
 endChecks table bytes sets =
     tableCheck table
     ∷ record { number = 9; applies = ltb (length bytes) (heldFrom + lookaheadOf table) || ltb sets (lookaheadOf table) }
-    ∷ tidyCheck table bytes
-    ∷ soundCheck (tableMeaning table) (lookaheadOf table) (decode bytes)
+    ∷ bytesCheck (tableMeaning table) (lookaheadOf table) bytes
     ∷ []
 
 unfoldable pub endRefusal : List ℕ → List ℕ → ℕ → ℕ

@@ -1,4 +1,4 @@
 pub mod Replies
 pub mod Calls
-pub mod Parts
 pub mod Theorems
+pub mod inner

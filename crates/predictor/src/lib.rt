@@ -6,11 +6,16 @@ ghost use Prim.Native.Nat.{ℕ, suc, _+_, _-_, _^_, _≤_, _<_};
 ghost use lib.ListN.{length, take, drop};
 ghost use Rattle.bitset.specs.Numbers.{has, setOf};
 ghost use Rattle.semiautomata.specs.Walks.{reach, possible};
+ghost use Rattle.streaming.specs.PlainWalk.{limit};
 ghost use Rattle.semiautomata.specs.Successors.{successors, Fit};
 ghost use Rattle.walks.specs.Walking.{Letters};
-ghost use Rattle.predictor.specs.Replies.{said};
+ghost use Rattle.table.specs.Table.{maxLookahead};
+ghost use Rattle.records.specs.Bytes.{heldFrom};
+ghost use Rattle.predictor.specs.Replies.{said, isRefusal};
 ghost use Rattle.predictor.specs.Calls.{Opens, Feeds, Ends};
-ghost use Rattle.predictor.specs.Parts.{baseSet, standing, resolving, judged, opening, openSets, isRefusal, lastAfter, fedInto, openedInto, Ready};
+ghost use Rattle.predictor.specs.inner.Parts.{baseSet, standing, resolving, judged, opening, openSets, lastAfter, fedInto, openedInto, Ready};
+use records::HELD_FROM;
+use table::SETS_FROM;
 
 // What opening and a letter fed answer: a refusal, a resolved position and its state, or that none was resolved.
 pub enum Answer {
@@ -24,6 +29,9 @@ pub enum Ended {
     Open(usize),
     Refused(u8),
 }
+
+// The most positions of a held word, its first and its last among them.
+const MAX_POSITIONS: usize = table::MAX_LOOKAHEAD + 1;
 
 // READING A RECORD
 
@@ -51,7 +59,7 @@ fn walk(sets: &[u64], n: usize, m: usize, set: u64, word: &[u8]) -> u64
 
 // The states that the held letters lead to from the base; none where the record breaks its rules.
 fn stand(sets: &[u64], n: usize, m: usize, k: usize, starts: u64, rec: &[u8]) -> u64
-    requires { ⌜ Fit n m (now sets) × (starts < 2 ^ n) × (8 + k ≤ length (now rec)) ⌝ }
+    requires { ⌜ Fit n m (now sets) × (starts < 2 ^ n) × (heldFrom + k ≤ length (now rec)) ⌝ }
     ensures { λ r. ⌜ r ≡ standing (successors n m starts (now (sets .entry))) k (now (rec .entry)) ⌝ }
 {
     let fed = records::fed_of(rec);
@@ -64,8 +72,8 @@ fn stand(sets: &[u64], n: usize, m: usize, k: usize, starts: u64, rec: &[u8]) ->
         return 0;
     }
     let base = base_of(k, starts, fed, last);
-    let end = 8 + held;
-    walk(sets, n, m, base, &rec[8..end])
+    let end = HELD_FROM + held;
+    walk(sets, n, m, base, &rec[HELD_FROM..end])
 }
 
 // DECIDING
@@ -97,7 +105,7 @@ fn due(
 
 // A position is resolved where one state is possible.
 fn resolution(position: usize, set: u64) -> Answer
-    requires { ⌜ position ≤ 1000000 ⌝ }
+    requires { ⌜ position ≤ limit ⌝ }
     ensures { λ r. ⌜ said r ≡ resolving position set ⌝ }
 {
     if u64::count_ones(set) == 1 {
@@ -120,7 +128,7 @@ fn decide(
     rec: &[u8],
     letter: u32,
 ) -> Answer
-    requires { ⌜ Fit n m (now sets) × (starts < 2 ^ n) × (8 + k ≤ length (now rec)) × (k ≤ 2016) ⌝ }
+    requires { ⌜ Fit n m (now sets) × (starts < 2 ^ n) × (heldFrom + k ≤ length (now rec)) × (k ≤ maxLookahead) ⌝ }
     ensures { λ r. ⌜ said r ≡ judged (successors n m starts (now (sets .entry))) k (now (rec .entry)) letter .reply ⌝ }
 {
     let here = stand(sets, n, m, k, starts, rec);
@@ -128,7 +136,7 @@ fn decide(
         return Answer::Refused(10);
     }
     let fed = records::fed_of(rec);
-    if fed == 1000000 {
+    if fed == records::LIMIT {
         return Answer::Refused(11);
     }
     let a = letter as usize;
@@ -144,8 +152,8 @@ fn decide(
         return Answer::Nothing;
     }
     let base = base_of(k, starts, fed, rec[4]);
-    let end = 8 + records::held_of(rec);
-    let set = due(sets, n, m, k, base, &rec[8..end], a, next.set);
+    let end = HELD_FROM + records::held_of(rec);
+    let set = due(sets, n, m, k, base, &rec[HELD_FROM..end], a, next.set);
     resolution(taken - k, set)
 }
 
@@ -190,7 +198,7 @@ fn last_after(answer: Answer, last: u8) -> u8
 
 // What an answer leaves of a record that a letter was fed to.
 fn apply(rec: &mut [u8], k: usize, letter: u32, answer: Answer)
-    requires { ⌜ (8 + k ≤ length (now rec)) × Ready k (now rec) letter (said answer) ⌝ }
+    requires { ⌜ (heldFrom + k ≤ length (now rec)) × Ready k (now rec) letter (said answer) ⌝ }
     ensures { λ _. ⌜ now (rec .exit) ≡ fedInto k (now (rec .entry)) letter (said answer) ⌝ }
 {
     if is_refusal(answer) {
@@ -202,7 +210,7 @@ fn apply(rec: &mut [u8], k: usize, letter: u32, answer: Answer)
 
 // What an answer leaves of a record that was opened.
 fn begin(rec: &mut [u8], k: usize, answer: Answer)
-    requires { ⌜ 8 + k ≤ length (now rec) ⌝ }
+    requires { ⌜ heldFrom + k ≤ length (now rec) ⌝ }
     ensures { λ _. ⌜ now (rec .exit) ≡ openedInto k (now (rec .entry)) (said answer) ⌝ }
 {
     if is_refusal(answer) {
@@ -234,14 +242,14 @@ fn list_open(
     rec: &[u8],
     out: &mut [u64],
 ) -> usize
-    requires { ⌜ Fit n m (now sets) × (starts < 2 ^ n) × (8 + k ≤ length (now rec)) × (k ≤ 2016) × (k ≤ length (now out)) × ¬ (standing (successors n m starts (now sets)) k (now rec) ≡ 0) ⌝ }
+    requires { ⌜ Fit n m (now sets) × (starts < 2 ^ n) × (heldFrom + k ≤ length (now rec)) × (k ≤ maxLookahead) × (k ≤ length (now out)) × ¬ (standing (successors n m starts (now sets)) k (now rec) ≡ 0) ⌝ }
     ensures { λ r. ⌜ (r ≡ length (openSets (successors n m starts (now (sets .entry))) k (now (rec .entry)))) × (now (out .exit) ≡ openSets (successors n m starts (now (sets .entry))) k (now (rec .entry)) ++ drop (length (openSets (successors n m starts (now (sets .entry))) k (now (rec .entry)))) (now (out .entry))) ⌝ }
 {
     let held = records::held_of(rec);
     let base = base_of(k, starts, records::fed_of(rec), rec[4]);
-    let end = 8 + held;
-    let mut all = [0u64; 2017];
-    walks::trace(sets, n, m, base, &rec[8..end], &mut all);
+    let end = HELD_FROM + held;
+    let mut all = [0u64; MAX_POSITIONS];
+    walks::trace(sets, n, m, base, &rec[HELD_FROM..end], &mut all);
     let count = records::lesser(held + 1, k);
     let from = held + 1 - count;
     copy(out, &all[from..], count);
@@ -254,14 +262,15 @@ fn list_open(
 pub fn open(table: &[u64], fresh: &mut [u8]) -> Answer
     ensures { λ r. ⌜ Opens (now (table .entry)) (now (fresh .entry)) r (now (fresh .exit)) ⌝ }
 {
-    if table::is_unfit(table) {
+    let head = table::head_of(table);
+    if !head.fit {
         return Answer::Refused(8);
     }
-    let k = table[2] as usize;
-    if fresh.len() < 8 + k {
+    let k = head.k;
+    if fresh.len() < HELD_FROM + k {
         return Answer::Refused(9);
     }
-    let answer = decide_open(k, table[3]);
+    let answer = decide_open(k, head.starts);
     begin(fresh, k, answer);
     answer
 }
@@ -270,16 +279,16 @@ pub fn open(table: &[u64], fresh: &mut [u8]) -> Answer
 pub fn feed(table: &[u64], rec: &mut [u8], letter: u32) -> Answer
     ensures { λ r. ⌜ Feeds (now (table .entry)) (now (rec .entry)) letter r (now (rec .exit)) ⌝ }
 {
-    if table::is_unfit(table) {
+    let head = table::head_of(table);
+    if !head.fit {
         return Answer::Refused(8);
     }
-    let n = table[0] as usize;
-    let m = table[1] as usize;
-    let k = table[2] as usize;
-    if rec.len() < 8 + k {
+    let k = head.k;
+    if rec.len() < HELD_FROM + k {
         return Answer::Refused(9);
     }
-    let answer = decide(&table[4..], n, m, k, table[3], &rec[..], letter);
+    let sets = &table[SETS_FROM..];
+    let answer = decide(sets, head.n, head.m, k, head.starts, &rec[..], letter);
     apply(rec, k, letter, answer);
     answer
 }
@@ -288,18 +297,18 @@ pub fn feed(table: &[u64], rec: &mut [u8], letter: u32) -> Answer
 pub fn finish(table: &[u64], rec: &[u8], out: &mut [u64]) -> Ended
     ensures { λ r. ⌜ Ends (now (table .entry)) (now (rec .entry)) r (now (out .entry)) (now (out .exit)) ⌝ }
 {
-    if table::is_unfit(table) {
+    let head = table::head_of(table);
+    if !head.fit {
         return Ended::Refused(8);
     }
-    let n = table[0] as usize;
-    let m = table[1] as usize;
-    let k = table[2] as usize;
-    if (rec.len() < 8 + k) | (out.len() < k) {
+    let k = head.k;
+    if (rec.len() < HELD_FROM + k) | (out.len() < k) {
         return Ended::Refused(9);
     }
-    if stand(&table[4..], n, m, k, table[3], rec) == 0 {
+    let sets = &table[SETS_FROM..];
+    if stand(sets, head.n, head.m, k, head.starts, rec) == 0 {
         return Ended::Refused(10);
     }
-    let count = list_open(&table[4..], n, m, k, table[3], rec, out);
+    let count = list_open(sets, head.n, head.m, k, head.starts, rec, out);
     Ended::Open(count)
 }

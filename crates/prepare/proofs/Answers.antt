@@ -1,79 +1,73 @@
--- From the look-ahead of loaded sets to what preparing, the count call and the entry promise of the plan.
+-- From the look-ahead of loaded sets to what preparing and the count call promise of the numbers that hold them, and of what is asked.
 -- Assumes nothing.
-use Prim.Native.Nat.{ℕ, suc, _+_, _-_, _*_, _^_, _≤_, _<_}
+use Prim.Native.Nat.{ℕ, suc, _+_, _-_, _*_, _≤_}
 use native.Mathlib.Nat.{mul-le-mul-left}
-use mathlib.Core.Path.{_≡_, refl, _∙_, ap}
+use mathlib.Core.Path.{_≡_, refl, _∙_, ap, subst}
+use mathlib.Core.Bool.{Bool, _||_}
 use mathlib.Core.List.{List}
 use native.Mathlib.Omega.{arith}
 use lib.ListN.{length, take, drop}
 use lib.Seq.{drop-at, length-take-le}
+use Rattle.semiautomata.specs.Semiautomaton.{Semiautomaton}
 use Rattle.semiautomata.specs.Predictability.{Lookahead}
-use Rattle.semiautomata.specs.Successors.{successors, Fit}
+use Rattle.semiautomata.specs.Successors.{successors}
 use Rattle.semiautomata.proofs.Bound.{lookahead-bound}
-use Rattle.plan.specs.Bytes.{headerOf, meaning, WellFormed}
-use Rattle.plan.specs.Loading.{Loaded}
-use Rattle.plan.proofs.Refusals.{well-formed-within, well-formed-range}
-use Rattle.table.specs.Table.{setsFrom, form}
-use Rattle.table.proofs.Form.{form-meaning, form-fit}
-use Rattle.lookahead.specs.declared.Answer.{Answer}
-use Rattle.lookahead.specs.declared.Answer.the-variants as answer
-use Rattle.lookahead.specs.declared.Evidence.{Evidence}
-use Rattle.lookahead.specs.Answers.{Answers}
-use Rattle.prepare.specs.Preparing.{Tabled, Shown}
-use Rattle.prepare.proofs.Refusals.{square}
+use Rattle.plan.specs.Asked.{Asked, refusalOf, Passes, Sized}
+use Rattle.plan.specs.Loading.{Holds}
+use Rattle.plan.proofs.Asked.{Proper}
+use Rattle.table.specs.Table.{laidOut}
+use Rattle.table.proofs.Form.{Reads, form-reads}
+use Rattle.prepare.specs.declared.Prepared.{Prepared}
+use Rattle.prepare.specs.Preparing.{shortTable, shortLetters, refusalWith, Prepares, CountsTo}
+use Rattle.prepare.specs.inner.Steps.{Held, plain}
+use Rattle.prepare.proofs.Refusals.{square, refused-passing}
 
--- the rest of a table behind its form is kept
-form-kept : (n m k starts : ℕ) (sets old : List ℕ) → n * m ≤ length sets → drop (setsFrom + n * m) (form n m k starts sets old) ≡ drop (setsFrom + n * m) old
-form-kept n m k starts sets old h =
-    let four : setsFrom + n * m ≡ suc (suc (suc (suc (n * m)))) = omega arith in
-    ap (λ (i : ℕ). drop i (form n m k starts sets old)) four ∙ drop-at (take (n * m) sets) (drop (setsFrom + n * m) old) (n * m) (length-take-le (n * m) sets h)
-
--- the counts, under the names that code has for them
-module _ (plan : List ℕ) (w : WellFormed plan) where
-  pub states : {n : ℕ} → n ≡ headerOf plan .n → n ≤ 64
-  states e = rw e (well-formed-range plan w .n-high)
-
-  pub letters : {m : ℕ} → m ≡ headerOf plan .m → m ≤ 32
-  letters e = rw e (well-formed-range plan w .m-high)
-
-module _ (plan : List ℕ) (w : WellFormed plan) {old′ sets : List ℕ} {starts : ℕ} (l : Loaded plan old′ sets starts) where
-  -- what is written for the look-ahead of the loaded sets is the plan's table
-  pub tabled : {n m : ℕ} → n ≡ headerOf plan .n → m ≡ headerOf plan .m → (k : ℕ) → Lookahead (meaning plan) k → {old table : List ℕ} → setsFrom + n * m ≤ length old
-      → table ≡ form n m k starts sets old → Tabled (meaning plan) k old table
-  tabled {n} {m} en em k a {old} {table} h e =
-      let N = headerOf plan .n in
-      let M = headerOf plan .m in
-      let r = well-formed-range plan w in
-      let room : setsFrom + N * M ≤ length old = rw (en, em) at h in
-      let is : table ≡ form N M k starts sets old = rw (en, em) at e in
-      rw is (record {
-        fit = form-fit N M k starts sets old (l .fit) (r .n-low) (r .m-low) (lookahead-bound (meaning plan) (well-formed-within plan w) k a) (l .starts-fit) room;
-        means = form-meaning N M k starts sets old (l .fit) (l .starts-fit) ∙ l .means;
-        k-is = refl;
-        kept = form-kept N M k starts sets old (l .fit .room);
-      })
-
-  module _ {n m : ℕ} (en : n ≡ headerOf plan .n) (em : m ≡ headerOf plan .m) where
-    pub fit-here : Fit n m sets
-    fit-here = rw (en, em) (l .fit)
-
-    pub starts-here : starts < 2 ^ n
-    starts-here = rw en (l .starts-fit)
-
-    -- the look-ahead of the loaded sets, or the evidence, is the plan's
-    module _ (r : Answer) (old letters : List ℕ) (a : Answers (successors n m starts sets) r old letters) where
-      of-plan : Answers (meaning plan) r old letters
-      of-plan = rw (en, em, l .means) at a
-
-      pub found : (k : ℕ) → r ≡ answer.Lookahead k → Lookahead (meaning plan) k × (letters ≡ old)
-      found k e = rw e at of-plan
-
-      pub shown : (e : Evidence) → r ≡ answer.Never e → Shown (meaning plan) e old letters
-      shown e q = let b = rw q at of-plan in record { claimed = b .0; kept = b .1 }
+-- a table that holds the form with the look-ahead is fit and means S
+pub sized-reads : {S : Semiautomaton} → Sized S → {k : ℕ} → Lookahead S k → (old : List ℕ) {table : List ℕ} → table ≡ laidOut S k old
+    → Reads S k table
+sized-reads {S} z {k} a old e = form-reads _ (record {
+  some-state = z .n-low;
+  states = z .n-high;
+  some-letter = z .m-low;
+  letters = z .m-high;
+  lookahead = lookahead-bound S (z .within) k a;
+  within = z .within;
+}) e
 
 -- a look-ahead is small
-pub small : (plan : List ℕ) → WellFormed plan → (k : ℕ) → Lookahead (meaning plan) k → k ≤ 4096
-small plan w k a = omega (arith, lookahead-bound (meaning plan) (well-formed-within plan w) k a, square (well-formed-range plan w .n-high), less (headerOf plan .n))
+pub small : {S : Semiautomaton} → Sized S → (k : ℕ) → Lookahead S k → k ≤ 4096
+small {S} z k a = omega (arith, lookahead-bound S (z .within) k a, square (z .n-high), less (S .n))
   where
     less : (n : ℕ) → n * (n - 1) ≤ n * n
     less n = mul-le-mul-left n (omega arith)
+
+module _ {n m starts : ℕ} {sets : List ℕ} (h : Held n m starts sets) where
+  -- nothing is checked
+  pub held-proper : Proper (plain (successors n m starts sets))
+  unfolding refusalOf
+  held-proper = record { numbered = refl; other = λ e. omega arith; sized = λ _. h .sized }
+
+  pub held-passes : Passes (plain (successors n m starts sets))
+  unfolding refusalOf
+  held-passes = refl
+
+-- where no check applies, what holds of the numbers loaded holds of what is asked
+module _ (A : Asked) (P : Proper A) (w : Passes A) {n m starts : ℕ} {sets : List ℕ} (h : Holds (A .means) n m starts sets) where
+  pub is-held : Held n m starts sets
+  is-held = record { fit = h .fit; starts-fit = h .starts-fit; sized = rw (h .means) (P .sized w) }
+
+  -- 9 is all that is left
+  left : (b : Bool) → refusalWith A b ≡ refusalWith (plain (A .means)) b
+  unfolding refusalWith
+  left b = refused-passing A P w b
+
+  pub counts-asked : (a : Prepared) (old letters : List ℕ) → CountsTo (plain (successors n m starts sets)) a old letters → CountsTo A a old letters
+  counts-asked a old letters c =
+      let d = subst (λ (S : Semiautomaton). CountsTo (plain S) a old letters) (h .means) c in
+      rw (left (shortLetters (A .means) (length old))) d
+
+  pub prepares-asked : (a : Prepared) (old table old′ letters : List ℕ) → Prepares (plain (successors n m starts sets)) a old table old′ letters
+      → Prepares A a old table old′ letters
+  prepares-asked a old table old′ letters c =
+      let d = subst (λ (S : Semiautomaton). Prepares (plain S) a old table old′ letters) (h .means) c in
+      rw (left (shortTable (A .means) (length old) || shortLetters (A .means) (length old′))) d

@@ -1,19 +1,21 @@
 -- The promises of preparing and of the count call, put together and taken apart for each case of the answer.
 -- Assumes nothing.
 use Prim.Native.Nat.{ℕ}
+use mathlib.Core.Bool.{Bool}
 use mathlib.Core.Path.{_≡_, refl, sym, _∙_}
 use mathlib.Core.Logic.{inl, inr}
 use mathlib.Core.List.{List}
 use lib.ListN.{length}
 use Rattle.semiautomata.specs.Semiautomaton.{Semiautomaton}
-use Rattle.semiautomata.specs.Predictability.{Lookahead, Unpredictable}
+use Rattle.semiautomata.specs.Predictability.{Unpredictable}
 use Rattle.refusals.specs.Outcomes.{refused}
 use Rattle.semiautomata.proofs.Decide.{witness-unpredictable}
-use Rattle.plan.specs.Bytes.{meaning}
+use Rattle.plan.specs.Asked.{Asked, refusalOf}
+use Rattle.plan.proofs.Asked.{Proper}
 use Rattle.lookahead.specs.declared.Evidence.{Evidence}
 use Rattle.prepare.specs.declared.Prepared.the-variants as prepared
-use Rattle.prepare.specs.Preparing.{countRefusal, prepareRefusal, Tabled, Shown, LooksAhead, Prepares, CountsTo}
-use Rattle.prepare.proofs.Refusals.{count-not-15, prepare-not-15}
+use Rattle.prepare.specs.Preparing.{refusalWith, countRefusal, prepareRefusal, Shown, LooksAhead, Prepares, CountsTo}
+use Rattle.prepare.proofs.Refusals.{refused-unread, not-15}
 
 -- evidence shown tells that there is no look-ahead
 pub shown-never : {S : Semiautomaton} {e : Evidence} {old letters : List ℕ} → Shown S e old letters → Unpredictable S
@@ -28,40 +30,36 @@ none-before : {refusal : ℕ} {S : Semiautomaton} → ¬ (refusal ≡ 15) → Lo
 none-before n (inl (e, _)) = absurd (n (sym e))
 none-before n (inr (p, _, _)) = p
 
-module _ (plan : List ℕ) where
+module _ (A : Asked) (P : Proper A) where
   -- THE COUNT CALL
-  pub count-refused : {r : ℕ} {old : List ℕ} → r ≡ countRefusal plan (length old) → ¬ (r ≡ 0) → CountsTo plan (prepared.Refused r) old old
-  count-refused e n = (inl (e, n), (λ q. count-not-15 plan _ (sym e ∙ q), refl))
+  pub count-refused : {r : ℕ} {old : List ℕ} → r ≡ countRefusal A (length old) → ¬ (r ≡ 0) → CountsTo A (prepared.Refused r) old old
+  count-refused e n = (inl (e, n), (λ q. not-15 A P _ (sym e ∙ q), refl))
 
-  pub count-never : {e : Evidence} {old letters : List ℕ} → countRefusal plan (length old) ≡ 0 → Shown (meaning plan) e old letters
-      → CountsTo plan (prepared.Unpredictable e) old letters
+  pub count-never : {e : Evidence} {old letters : List ℕ} → countRefusal A (length old) ≡ 0 → Shown (A .means) e old letters
+      → CountsTo A (prepared.Unpredictable e) old letters
   count-never p s = (inr (p, refl, shown-never s), s)
 
-  pub count-refused-so : {r : ℕ} {old letters : List ℕ} → CountsTo plan (prepared.Refused r) old letters
-      → (r ≡ countRefusal plan (length old)) × ¬ (r ≡ 0) × (letters ≡ old)
+  pub count-refused-so : {r : ℕ} {old letters : List ℕ} → CountsTo A (prepared.Refused r) old letters
+      → (r ≡ countRefusal A (length old)) × ¬ (r ≡ 0) × (letters ≡ old)
   count-refused-so (l, (n, k)) = let (e, z) = before-15 n l in (e, z, k)
 
-  pub count-never-so : {e : Evidence} {old letters : List ℕ} → CountsTo plan (prepared.Unpredictable e) old letters
-      → (countRefusal plan (length old) ≡ 0) × Shown (meaning plan) e old letters
-  count-never-so (l, s) = (none-before (count-not-15 plan _) l, s)
+  pub count-never-so : {e : Evidence} {old letters : List ℕ} → CountsTo A (prepared.Unpredictable e) old letters
+      → (countRefusal A (length old) ≡ 0) × Shown (A .means) e old letters
+  count-never-so (l, s) = (none-before (not-15 A P _) l, s)
 
   -- PREPARING
-  pub prepare-refused : {r : ℕ} {old old′ : List ℕ} → r ≡ prepareRefusal plan (length old) (length old′) → ¬ (r ≡ 0)
-      → Prepares plan (prepared.Refused r) old old old′ old′
-  prepare-refused e n = (inl (e, n), refl, (λ q. prepare-not-15 plan _ _ (sym e ∙ q), refl))
+  pub prepare-refused : {r : ℕ} {old old′ : List ℕ} → r ≡ prepareRefusal A (length old) (length old′) → ¬ (r ≡ 0)
+      → Prepares A (prepared.Refused r) old old old′ old′
+  prepare-refused e n = (inl (e, n), refl, (λ q. not-15 A P _ (sym e ∙ q), refl))
 
-  pub prepare-ready : {k : ℕ} {old table old′ letters : List ℕ} → prepareRefusal plan (length old) (length old′) ≡ 0
-      → Lookahead (meaning plan) k → Tabled (meaning plan) k old table → letters ≡ old′ → Prepares plan (prepared.Ready k) old table old′ letters
-  prepare-ready p a t e = ((p, a), t, e)
-
-  pub prepare-never : {e : Evidence} {old old′ letters : List ℕ} → prepareRefusal plan (length old) (length old′) ≡ 0
-      → Shown (meaning plan) e old′ letters → Prepares plan (prepared.Unpredictable e) old old old′ letters
-  prepare-never p s = (inr (p, refl, shown-never s), refl, s)
-
-  pub prepare-refused-so : {r : ℕ} {old table old′ letters : List ℕ} → Prepares plan (prepared.Refused r) old table old′ letters
-      → (r ≡ prepareRefusal plan (length old) (length old′)) × ¬ (r ≡ 0) × (table ≡ old) × (letters ≡ old′)
+  pub prepare-refused-so : {r : ℕ} {old table old′ letters : List ℕ} → Prepares A (prepared.Refused r) old table old′ letters
+      → (r ≡ prepareRefusal A (length old) (length old′)) × ¬ (r ≡ 0) × (table ≡ old) × (letters ≡ old′)
   prepare-refused-so (l, t, (n, k)) = let (e, z) = before-15 n l in (e, z, t, k)
 
-  pub prepare-never-so : {e : Evidence} {old table old′ letters : List ℕ} → Prepares plan (prepared.Unpredictable e) old table old′ letters
-      → (prepareRefusal plan (length old) (length old′) ≡ 0) × Shown (meaning plan) e old′ letters × (table ≡ old)
-  prepare-never-so (l, t, s) = (none-before (prepare-not-15 plan _ _) l, s, t)
+  pub prepare-never-so : {e : Evidence} {old table old′ letters : List ℕ} → Prepares A (prepared.Unpredictable e) old table old′ letters
+      → (prepareRefusal A (length old) (length old′) ≡ 0) × Shown (A .means) e old′ letters × (table ≡ old)
+  prepare-never-so (l, t, s) = (none-before (not-15 A P _) l, s, t)
+
+  -- a check that applies is the refusal of every call
+  pub unread : {r : ℕ} → r ≡ refusalOf A → ¬ (r ≡ 0) → (b : Bool) → r ≡ refusalWith A b
+  unread e n b = e ∙ sym (refused-unread A P (λ w. n (e ∙ w)) b)

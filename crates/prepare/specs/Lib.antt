@@ -1,2 +1,3 @@
 pub mod Preparing
 pub mod Theorems
+pub mod inner

@@ -1,7 +1,7 @@
 -- Preparing and the count call (document 01, The count; Prepared plan): their refusals in order, and what they answer and write.
 -- Assumes nothing.
 use Prim.Native.Nat.{ℕ, _+_, _*_}
-use mathlib.Core.Bool.{Bool, false, _||_}
+use mathlib.Core.Bool.{Bool, _||_}
 use mathlib.Core.Logic.{_⊎_}
 use mathlib.Core.Path.{_≡_}
 use mathlib.Core.List.{List, [], _∷_, _++_}
@@ -12,36 +12,33 @@ use Rattle.semiautomata.specs.Predictability.{Lookahead}
 use Rattle.semiautomata.specs.Predictability as predictability
 use Rattle.refusals.specs.Checks.{Check, firstOf}
 use Rattle.refusals.specs.Outcomes.{Outcome, refused, answered}
-use Rattle.plan.specs.Bytes.{headerOf, meaning, planChecks, refusal}
-use Rattle.table.specs.Table.{setsFrom, lookaheadOf, tableMeaning, unfit}
+use Rattle.plan.specs.Asked.{Asked, refusalOf}
+use Rattle.table.specs.Table.{setsFrom, laidOut}
 use Rattle.lookahead.specs.declared.Evidence.{Evidence}
 use Rattle.lookahead.specs.Answers.{TrueOf}
 use Rattle.prepare.specs.declared.Prepared.{Prepared}
 use Rattle.prepare.specs.declared.Prepared.the-variants.{Ready, Refused, Unpredictable}
 
 -- 9: a lent buffer is too short: 4 + n × m numbers for preparing, n × n bytes for the evidence.
-abbrev pub shortTable : List ℕ → ℕ → Bool
-shortTable plan size = ltb size (setsFrom + headerOf plan .n * headerOf plan .m)
+abbrev pub shortTable : Semiautomaton → ℕ → Bool
+shortTable S size = ltb size (setsFrom + S .n * S .m)
 
-abbrev pub shortLetters : List ℕ → ℕ → Bool
-shortLetters plan size = ltb size (headerOf plan .n * headerOf plan .n)
+abbrev pub shortLetters : Semiautomaton → ℕ → Bool
+shortLetters S size = ltb size (S .n * S .n)
 
 abbrev pub short : Bool → List Check
 short applies = record { number = 9; applies = applies } ∷ []
 
--- The refusals of the count call and of preparing before 15, in order.
-unfoldable pub countRefusal : List ℕ → ℕ → ℕ
-countRefusal plan letters = firstOf (planChecks plan ++ short (shortLetters plan letters))
+-- What is asked, and then 9: the number of the first that applies, 0 if none does.
+unfoldable pub refusalWith : Asked → Bool → ℕ
+refusalWith A applies = firstOf (A .checks ++ short applies)
 
-unfoldable pub prepareRefusal : List ℕ → ℕ → ℕ → ℕ
-prepareRefusal plan table letters = firstOf (planChecks plan ++ short (shortTable plan table || shortLetters plan letters))
+-- The refusals of the count call and of preparing before 15, with buffers of these lengths.
+abbrev pub countRefusal : Asked → ℕ → ℕ
+countRefusal A letters = refusalWith A (shortLetters (A .means) letters)
 
--- The table holds the form of S with k, and keeps the rest of the buffer.
-pub record Tabled (S : Semiautomaton) (k : ℕ) (old table : List ℕ) : Type 0 where
-  pub fit : unfit table ≡ false
-  pub means : tableMeaning table ≡ S
-  pub k-is : lookaheadOf table ≡ k
-  pub kept : drop (setsFrom + S .n * S .m) table ≡ drop (setsFrom + S .n * S .m) old
+abbrev pub prepareRefusal : Asked → ℕ → ℕ → ℕ
+prepareRefusal A table letters = refusalWith A (shortTable (A .means) table || shortLetters (A .means) letters)
 
 -- The evidence is a true claim with the letters now lent, of which those past its lengths are kept.
 pub record Shown (S : Semiautomaton) (e : Evidence) (old letters : List ℕ) : Type 0 where
@@ -66,30 +63,29 @@ LeavesLetters S (Ready k) old letters = letters ≡ old
 LeavesLetters S (Refused r) old letters = ¬ (r ≡ 15) × (letters ≡ old)
 LeavesLetters S (Unpredictable e) old letters = Shown S e old letters
 
--- .. and in the lent table: the form with k, and else what stood there.
+-- .. and in the lent table: the form of S with k, the rest of the buffer as it was; and else what stood there.
 abbrev pub LeavesTable : Semiautomaton → Prepared → List ℕ → List ℕ → Type 0
-LeavesTable S (Ready k) old table = Tabled S k old table
+LeavesTable S (Ready k) old table = table ≡ laidOut S k old
 LeavesTable S (Refused r) old table = table ≡ old
 LeavesTable S (Unpredictable e) old table = table ≡ old
 
 -- What preparing gives.
-abbrev pub Prepares : List ℕ → Prepared → List ℕ → List ℕ → List ℕ → List ℕ → Type 0
-Prepares plan a old table old′ letters =
-    LooksAhead (prepareRefusal plan (length old) (length old′)) (meaning plan) (outcomeOfPrepared a)
-    × LeavesTable (meaning plan) a old table
-    × LeavesLetters (meaning plan) a old′ letters
+abbrev pub Prepares : Asked → Prepared → List ℕ → List ℕ → List ℕ → List ℕ → Type 0
+Prepares A a old table old′ letters =
+    LooksAhead (prepareRefusal A (length old) (length old′)) (A .means) (outcomeOfPrepared a)
+    × LeavesTable (A .means) a old table
+    × LeavesLetters (A .means) a old′ letters
 
 -- What the count call gives: the same without a table.
-abbrev pub CountsTo : List ℕ → Prepared → List ℕ → List ℕ → Type 0
-CountsTo plan a old letters =
-    LooksAhead (countRefusal plan (length old)) (meaning plan) (outcomeOfPrepared a) × LeavesLetters (meaning plan) a old letters
+abbrev pub CountsTo : Asked → Prepared → List ℕ → List ℕ → Type 0
+CountsTo A a old letters = LooksAhead (countRefusal A (length old)) (A .means) (outcomeOfPrepared a) × LeavesLetters (A .means) a old letters
 
 -- What the drawing program's entry answers, as one number: k, or 65,536 plus the refusal.
 abbrev pub asNumber : Outcome ℕ → ℕ
 asNumber (answered k) = k
 asNumber (refused r) = 65536 + r
 
-pub record Draws (plan : List ℕ) (r : ℕ) : Type 0 where
+pub record Draws (A : Asked) (r : ℕ) : Type 0 where
   pub outcome : Outcome ℕ
-  pub looks-ahead : LooksAhead (refusal plan) (meaning plan) outcome
+  pub looks-ahead : LooksAhead (refusalOf A) (A .means) outcome
   pub is : r ≡ asNumber outcome

@@ -1,12 +1,12 @@
 // From plan bytes to a look-ahead: preparing and the count call.
-// The look-ahead itself is found by crate lookahead, from successor sets; here plans are read and loaded, and buffers judged.
-ghost use mathlib.Core.Path.{_≡_};
-ghost use Prim.Native.Nat.{_*_};
-ghost use Rattle.plan.specs.Bytes.{headerOf, WellFormed};
+// The look-ahead itself is found by crate lookahead, from successor sets; here plans are loaded, and buffers judged.
+ghost use Rattle.semiautomata.specs.Successors.{successors};
+ghost use Rattle.plan.specs.Bytes.{asked};
 ghost use Rattle.prepare.specs.Preparing.{Prepares, CountsTo};
+ghost use Rattle.prepare.specs.inner.Steps.{Held, plain};
 use lookahead::Answer;
 use lookahead::Evidence;
-use plan::Reading;
+use plan::Loaded;
 
 // What preparing and the count call answer: the look-ahead, a refusal, or (15) the evidence that there is no look-ahead.
 pub enum Prepared {
@@ -15,70 +15,79 @@ pub enum Prepared {
     Unpredictable(Evidence),
 }
 
-// The plan is well formed; the buffers are judged, the look-ahead is sought in local arrays, and the table is written last.
-fn prepare_sound(plan: &[u8], n: usize, m: usize, table: &mut [u64], letters: &mut [u8]) -> Prepared
-    requires { ⌜ WellFormed (now plan) × (n ≡ headerOf (now plan) .n) × (m ≡ headerOf (now plan) .m) ⌝ }
-    ensures { λ r. ⌜ Prepares (now (plan .entry)) r (now (table .entry)) (now (table .exit)) (now (letters .entry)) (now (letters .exit)) ⌝ }
-{
-    if table.len() < 4 + n * m {
-        return Prepared::Refused(9);
-    }
-    if letters.len() < n * n {
-        return Prepared::Refused(9);
-    }
-    let mut sets = [0u64; 2048];
-    let starts = plan::load(plan, &mut sets);
-    let answer = lookahead::look_ahead(&sets, n, m, starts, letters);
-    match answer {
-        Answer::Lookahead(k) => {
-            table::write(table, n, m, k as u64, starts, &sets);
-            Prepared::Ready(k)
-        }
-        Answer::Never(e) => Prepared::Unpredictable(e),
-    }
-}
-
-// Preparing: the plan's table, with its look-ahead, into the lent numbers.
-pub fn prepare(plan: &[u8], table: &mut [u64], letters: &mut [u8]) -> Prepared
-    ensures { λ r. ⌜ Prepares (now (plan .entry)) r (now (table .entry)) (now (table .exit)) (now (letters .entry)) (now (letters .exit)) ⌝ }
-{
-    let reading = plan::read(plan);
-    match reading {
-        Reading::Refused(r) => Prepared::Refused(r),
-        Reading::Counts { n, m, p: _, e: _ } => prepare_sound(
-            plan,
-            n as usize,
-            m as usize,
-            table,
-            letters,
-        ),
-    }
-}
-
-// The plan is well formed, and the letters are judged.
-fn count_sound(plan: &[u8], n: usize, m: usize, letters: &mut [u8]) -> Prepared
-    requires { ⌜ WellFormed (now plan) × (n ≡ headerOf (now plan) .n) × (m ≡ headerOf (now plan) .m) ⌝ }
-    ensures { λ r. ⌜ CountsTo (now (plan .entry)) r (now (letters .entry)) (now (letters .exit)) ⌝ }
+// The look-ahead of loaded sets, once the letters are judged.
+fn count_loaded(sets: &[u64], n: usize, m: usize, starts: u64, letters: &mut [u8]) -> Prepared
+    requires { ⌜ Held n m starts (now sets) ⌝ }
+    ensures { λ r. ⌜ CountsTo (plain (successors n m starts (now (sets .entry)))) r (now (letters .entry)) (now (letters .exit)) ⌝ }
 {
     if letters.len() < n * n {
         return Prepared::Refused(9);
     }
-    let mut sets = [0u64; 2048];
-    let starts = plan::load(plan, &mut sets);
-    let answer = lookahead::look_ahead(&sets, n, m, starts, letters);
+    let answer = lookahead::look_ahead(sets, n, m, starts, letters);
     match answer {
         Answer::Lookahead(k) => Prepared::Ready(k),
         Answer::Never(evidence) => Prepared::Unpredictable(evidence),
     }
 }
 
+// The same with the table, which is judged first and written last.
+fn prepare_loaded(
+    sets: &[u64],
+    n: usize,
+    m: usize,
+    starts: u64,
+    table: &mut [u64],
+    letters: &mut [u8],
+) -> Prepared
+    requires { ⌜ Held n m starts (now sets) ⌝ }
+    ensures { λ r. ⌜ Prepares (plain (successors n m starts (now (sets .entry)))) r (now (table .entry)) (now (table .exit)) (now (letters .entry)) (now (letters .exit)) ⌝ }
+{
+    if table.len() < table::SETS_FROM + n * m {
+        return Prepared::Refused(9);
+    }
+    let counted = count_loaded(sets, n, m, starts, letters);
+    match counted {
+        Prepared::Ready(k) => {
+            table::write(table, n, m, k as u64, starts, sets);
+            Prepared::Ready(k)
+        }
+        Prepared::Refused(r) => Prepared::Refused(r),
+        Prepared::Unpredictable(e) => Prepared::Unpredictable(e),
+    }
+}
+
+// Preparing: the plan's table, with its look-ahead, into the lent numbers.
+pub fn prepare(plan: &[u8], table: &mut [u64], letters: &mut [u8]) -> Prepared
+    ensures { λ r. ⌜ Prepares (asked (now (plan .entry))) r (now (table .entry)) (now (table .exit)) (now (letters .entry)) (now (letters .exit)) ⌝ }
+{
+    let mut sets = [0u64; 2048];
+    let loaded = plan::load(plan, &mut sets);
+    match loaded {
+        Loaded::Refused(r) => Prepared::Refused(r),
+        Loaded::Plan {
+            n,
+            m,
+            p: _,
+            e: _,
+            starts,
+        } => prepare_loaded(&sets, n as usize, m as usize, starts, table, letters),
+    }
+}
+
 // The count call: the look-ahead of a plan, without a table.
 pub fn count(plan: &[u8], letters: &mut [u8]) -> Prepared
-    ensures { λ r. ⌜ CountsTo (now (plan .entry)) r (now (letters .entry)) (now (letters .exit)) ⌝ }
+    ensures { λ r. ⌜ CountsTo (asked (now (plan .entry))) r (now (letters .entry)) (now (letters .exit)) ⌝ }
 {
-    let reading = plan::read(plan);
-    match reading {
-        Reading::Refused(number) => Prepared::Refused(number),
-        Reading::Counts { n, m, p: _, e: _ } => count_sound(plan, n as usize, m as usize, letters),
+    let mut sets = [0u64; 2048];
+    let loaded = plan::load(plan, &mut sets);
+    match loaded {
+        Loaded::Refused(number) => Prepared::Refused(number),
+        Loaded::Plan {
+            n,
+            m,
+            p: _,
+            e: _,
+            starts,
+        } => count_loaded(&sets, n as usize, m as usize, starts, letters),
     }
 }

@@ -11,7 +11,7 @@ use lib.Seq.{take-suc, drop-cons, set-at, set-split, getD-append-add, getD-drop,
 use Rattle.streaming.specs.Streaming.{latest}
 use Rattle.streaming.proofs.Streaming.{length-snoc}
 use Rattle.records.specs.Bytes.{heldFrom, bytesOf, heldCount, decode, encode}
-use Rattle.records.specs.Taking.{pushed, takenInto, startedInto}
+use Rattle.records.specs.inner.Taking.{pushed, takenInto, startedInto}
 use Rattle.records.proofs.Bytes.{Tidy}
 
 -- MOVING UP: the list when i letters have moved

@@ -9,7 +9,13 @@ ghost use lib.ListN.{length, getD, drop, replicate};
 ghost use Rattle.bitset.specs.Sets.{any};
 ghost use Rattle.streaming.specs.PlainWalk.{limit};
 ghost use Rattle.records.specs.Bytes.{numberAt, bytesOf, heldCount, decode, tidy};
-ghost use Rattle.records.specs.Taking.{regular, pushed, takenInto, startedInto};
+ghost use Rattle.records.specs.inner.Taking.{regular, pushed, takenInto, startedInto};
+
+// So many letters are taken at the most.
+pub const LIMIT: usize = 1000000;
+
+// Where the held letters begin; the numbers of a record stand before them.
+pub const HELD_FROM: usize = 8;
 
 pub fn wide(x: u8) -> usize
     ensures { λ r. ⌜ (r ≡ x) × (r < 256) ⌝ }
@@ -66,14 +72,14 @@ pub fn is_tidy(rec: &[u8], k: usize) -> bool
     if k < held {
         return false;
     }
-    (rec[5] == 0) & is_zero(rec, 8 + held, k - held)
+    (rec[5] == 0) & is_zero(rec, HELD_FROM + held, k - held)
 }
 
 // Whether a record's numbers keep its rules.
 pub fn is_regular(n: usize, k: usize, fed: usize, last: usize, held: usize) -> bool
     ensures { λ r. ⌜ r ≡ regular n k fed last held ⌝ }
 {
-    let counted = (fed <= 1000000) & (held == lesser(fed, k));
+    let counted = (fed <= LIMIT) & (held == lesser(fed, k));
     if fed < k {
         counted & (last == 255)
     } else {
@@ -131,7 +137,7 @@ pub fn keep(rec: &mut [u8], k: usize, letter: u8, last: u8)
 {
     let fed = fed_of(&rec[..]);
     let held = held_of(&rec[..]);
-    push(&mut rec[8..], k, held, letter);
+    push(&mut rec[HELD_FROM..], k, held, letter);
     write_numbers(rec, fed + 1, last, lesser(held + 1, k));
 }
 
@@ -149,6 +155,6 @@ pub fn start(rec: &mut [u8], k: usize, last: u8)
     requires { ⌜ 8 + k ≤ length (now rec) ⌝ }
     ensures { λ _. ⌜ now (rec .exit) ≡ startedInto k (now (rec .entry)) last ⌝ }
 {
-    clear(&mut rec[8..], k);
+    clear(&mut rec[HELD_FROM..], k);
     write_numbers(rec, 0, last, 0);
 }

@@ -7,7 +7,7 @@ use mathlib.Core.Logic.{_↔_}
 use mathlib.Core.List.{List, [], _∷_, _++_}
 use native.Mathlib.Omega.{arith}
 use lib.Dec.{leb}
-use borrow.Author.Tests.{leb-true}
+use borrow.Author.Tests.{leb-true, le-leb}
 use Rattle.refusals.specs.Checks.{Check, firstOf, within}
 
 -- the numbers of a list are from 1 to b; of a list that is written down this computes
@@ -91,3 +91,10 @@ first-before (c ∷ cs) ds n = go (c .applies) (first-before cs ds) n
         → cond x (c .number) (firstOf (cs ++ ds)) ≡ cond x (c .number) (firstOf cs)
     go true _ _ = refl
     go false f n = f n
+
+-- a higher bound
+pub numbered-up : (b c : ℕ) → b ≤ c → (cs : List Check) → Numbered b cs → Numbered c cs
+numbered-up b c h [] _ = refl
+numbered-up b c h (x ∷ cs) n =
+    let s = split b x cs n in
+    rw (le-leb 1 (x .number) (s .low), le-leb (x .number) c (omega (arith, s .high)), numbered-up b c h cs (s .rest))

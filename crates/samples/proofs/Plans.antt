@@ -13,7 +13,8 @@ use Rattle.semiautomata.specs.Semiautomaton.{Semiautomaton, Within}
 use Rattle.semiautomata.specs.Levels.{live, clashIn, clash}
 use Rattle.semiautomata.proofs.Levels.{with-and}
 use Rattle.semiautomata.proofs.Decide.{clash-out, clash-in, some-shorter, lookahead-first, some-witness, witness-unpredictable}
-use Rattle.plan.specs.Bytes.{meaning, refusal, WellFormed}
+use Rattle.plan.specs.Asked.{refusalOf}
+use Rattle.plan.specs.Bytes.{meaning, planChecks, refusal, WellFormed}
 use Rattle.plan.proofs.Refusals.{well-formed-within}
 use Rattle.samples.specs.Plans.{Sample, bytes, samples, Ahead, Holds}
 
@@ -51,7 +52,7 @@ all-hold [] e = tt
 all-hold (s ∷ ss) e = with-and (passes s) _ (λ a b. (holds s a, all-hold ss b)) e
 
 samples-pass : all samples ≡ true
-unfolding refusal any clashIn clash live
+unfolding refusalOf planChecks any clashIn clash live
 samples-pass = refl
 
 pub samples-hold : All samples

@@ -5,7 +5,7 @@ use mathlib.Core.Option.{Option, some, none}
 use mathlib.Core.List.{List, [], _∷_}
 use Rattle.semiautomata.specs.Semiautomaton.{Semiautomaton}
 use Rattle.semiautomata.specs.Predictability.{Lookahead, Unpredictable}
-use Rattle.semiautomata.specs.Plan.{Line}
+use Rattle.plan.specs.Plan.{Line}
 use Rattle.plan.specs.Bytes.{meaning, WellFormed}
 use Rattle.plan.specs.Written.{Listed, line, planBytes}
 

@@ -9,6 +9,5 @@ pub mod Decide
 pub mod Computed
 pub mod Positions
 pub mod Selectors
-pub mod Plan
 pub mod Successors
 pub mod Theorems

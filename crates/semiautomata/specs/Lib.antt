@@ -3,7 +3,6 @@ pub mod Semiautomaton
 pub mod Predictability
 pub mod Walks
 pub mod Selectors
-pub mod Plan
 pub mod Levels
 pub mod Successors
 pub mod Theorems

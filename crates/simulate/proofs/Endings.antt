@@ -11,7 +11,7 @@ use Rattle.semiautomata.specs.Walks.{step, reach}
 use Rattle.semiautomata.specs.Successors.{successors, Fit}
 use Rattle.walks.proofs.Steps.{bare, spells-bare}
 use Rattle.walks.proofs.Words.{alone, alone-step}
-use Rattle.simulate.specs.Verdicts.{ends}
+use Rattle.simulate.specs.inner.Verdicts.{ends}
 
 module _ {n m : ℕ} {sets : List ℕ} (f : Fit n m sets) {s : ℕ} (h : s < n) where
   pub stuck-ends : (w : List ℕ) {r : ℕ} → r ≡ setOf n (reach (bare n m sets) (has (alone s)) w)

@@ -1,7 +1,7 @@
 pub mod Sets
 pub mod Positions
+pub mod Walking
 pub mod Endings
 pub mod Minimality
-pub mod Lent
 pub mod Naming
 pub mod Theorems

@@ -19,11 +19,12 @@ use Rattle.bitset.proofs.Bits.{has-empty, has-setOf, is-setOf, setOf-cong}
 use Rattle.semiautomata.specs.Semiautomaton.{Semiautomaton}
 use Rattle.semiautomata.specs.Walks.{spells, survivors}
 use Rattle.semiautomata.specs.Selectors.{selector, minimalSelector, maximalNonselector}
-use Rattle.simulate.specs.Verdicts.{ends, Computes}
+use Rattle.simulate.specs.inner.Verdicts.{ends, Computes}
 use Rattle.simulate.proofs.Sets.{counted}
 
 -- a set between two sets of one member has one member
-between : (n : ℕ) (p q r : ℕ → Bool) → ((x : ℕ) → p x ≡ true → q x ≡ true) → ((x : ℕ) → q x ≡ true → r x ≡ true) → size n p ≡ 1 → size n r ≡ 1 → size n q ≡ 1
+between : (n : ℕ) (p q r : ℕ → Bool) → ((x : ℕ) → p x ≡ true → q x ≡ true) → ((x : ℕ) → q x ≡ true → r x ≡ true)
+    → size n p ≡ 1 → size n r ≡ 1 → size n q ≡ 1
 between n p q r f g a b =
     let (x, o) = size-sole n p a in
     let (y, u) = size-sole n r b in
@@ -36,7 +37,8 @@ module _ (S : Semiautomaton) where
   unfolding spells
   spells-take zero w s e = refl
   spells-take (suc i) [] s e = refl
-  spells-take (suc i) (a ∷ w) s e = with-any _ _ (λ r h d. let (x, y) = and-out (S .edge s a r) (spells S w r) d in any-in _ _ r h (and-in _ _ x (spells-take i w r y))) e
+  spells-take (suc i) (a ∷ w) s e =
+      with-any _ _ (λ r h d. let (x, y) = and-out (S .edge s a r) (spells S w r) d in any-in _ _ r h (and-in _ _ x (spells-take i w r y))) e
 
 module _ (S : Semiautomaton) (X : ℕ → Bool) where
   -- what survives a word survives its prefixes
@@ -48,7 +50,7 @@ module _ (S : Semiautomaton) (X : ℕ → Bool) where
       → any (length w) (λ i. selector S X (take i w)) ≡ selector S X (take (length w - 1) w)
   unfolding selector
   shorter w one h = same-test _ _
-      (with-any _ _ (λ i g d. eq-eqb _ 1 (between (S .n) (survivors S X w) (survivors S X (take (length w - 1) w)) (survivors S X (take i w))
+      (with-any _ _ (λ i g d. eq-eqb _ 1 (between (S .n) (survivors S X w) _ (survivors S X (take i w))
       (survives-take (length w - 1) w)
       (λ t q. rw (take-take i (length w - 1) w (omega arith)) at (survives-take i (take (length w - 1) w) t q))
       one (eqb-true _ 1 d))))
@@ -61,7 +63,8 @@ module _ (S : Semiautomaton) (X : ℕ → Bool) where
     -- a maximal nonselector has two survivors or more
     none : ones found ≤ 1 → 0 ≡ setOf (S .n) (maximalNonselector S X w)
     unfolding maximalNonselector
-    none h = is-setOf (S .n) _ 0 (pow-pos (S .n)) (λ t _. has-empty t ∙ sym (rw (le-ltb 1 _ (rw many at h)) (and-false (survivors S X w t))))
+    none h = is-setOf (S .n) _ 0 (pow-pos (S .n)) λ t _.
+        has-empty t ∙ sym (rw (le-ltb 1 _ (rw many at h)) (and-false (survivors S X w t)))
 
     pub of-several : 1 < ones found → {last : ℕ} → last ≡ setOf (S .n) (λ t. has found t && ends S w t)
         → Computes S X w (record { survivors = found; minimal = false; nonselected = last })

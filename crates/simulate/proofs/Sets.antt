@@ -12,7 +12,7 @@ use Rattle.bitset.proofs.Tests.{and-out}
 use Rattle.bitset.proofs.Below.{size-cong}
 use Rattle.bitset.proofs.Bits.{setOf-lt, has-setOf}
 use Rattle.bitset.proofs.Members.{ones-size}
-use Rattle.simulate.specs.Walking.{Stands}
+use Rattle.simulate.specs.Verdicts.{Stands}
 
 module _ (n : ℕ) (p : ℕ → Bool) where
   members : (t : ℕ) → t < n → has (setOf n p) t ≡ p t
@@ -22,7 +22,8 @@ module _ (n : ℕ) (p : ℕ → Bool) where
   counted e = ap ones e ∙ ones-size n _ (setOf-lt n p) ∙ size-cong n _ p members
 
   -- a set whose test says what P says
-  pub stands : {P : ℕ → Type 0} {set : ℕ} → set ≡ setOf n p → ((x : ℕ) → p x ≡ true → P x) → ((x : ℕ) → P x → (x < n) × (p x ≡ true)) → Stands n P set
+  pub stands : {P : ℕ → Type 0} {set : ℕ} → set ≡ setOf n p → ((x : ℕ) → p x ≡ true → P x)
+      → ((x : ℕ) → P x → (x < n) × (p x ≡ true)) → Stands n P set
   stands e pass from = record {
     fits = rw e (setOf-lt n p);
     is = λ x. (λ q. pass x (and-out (ltb x n) (p x) (rw (e, has-setOf) at q) .1), λ c. let (h, q) = from x c in rw e (members x h ∙ q));

@@ -1,29 +1,31 @@
 -- The theorems of specs/Theorems.antt.
 -- Assumes nothing.
-use Prim.Native.Nat.{ℕ, suc, _+_, _-_, _≤_}
+use Prim.Native.Nat.{ℕ, suc, _≤_}
 use mathlib.Core.Bool.{Bool, true, false, false≢true}
 use mathlib.Core.Option.{some}
-use mathlib.Core.Logic.{inl, inr}
 use mathlib.Core.Path.{_≡_, sym, _∙_, ap}
 use mathlib.Core.List.{List}
 use native.Mathlib.Omega.{arith}
-use lib.Dec.{leb}
-use lib.ListN.{length, getD, drop}
+use lib.ListN.{length, getD, drop, length-append, length-drop}
 use lib.Pow.{pow-pos}
-use lib.Seq.{getD-drop, ext-getD}
-use borrow.Author.Tests.{leb-true, leb-false}
-use Rattle.bitset.proofs.Tests.{same-test, decided}
+use lib.Seq.{drop-at}
+use borrow.Author.Tests.{ltb-false, not-false}
+use Rattle.bitset.proofs.Tests.{same-test}
 use Rattle.bitset.proofs.Bits.{has-empty, setOf-cong, setOf-has}
 use Rattle.semiautomata.specs.Semiautomaton.{Semiautomaton}
 use Rattle.semiautomata.specs.Predictability.{Critical, member, named}
-use Rattle.semiautomata.proofs.Computed.{longest-unique}
-use Rattle.table.specs.Table.{tableMeaning}
+use Rattle.semiautomata.specs.Walks.{Longest, PossibleAt}
+use Rattle.refusals.proofs.First.{first-passed}
+use Rattle.table.specs.Table.{statesOf, tableMeaning}
+use Rattle.table.proofs.Fitness.{fitting}
+use Rattle.walks.proofs.Longest.{longest-some}
 use Rattle.simulate.specs.declared.Walked.the-variants.{Upto}
 use Rattle.simulate.specs.declared.Verdict.{Verdict}
 use Rattle.simulate.specs.declared.Judged.the-variants.{Told}
-use Rattle.simulate.specs.Walking.{Stands, Walks}
-use Rattle.simulate.specs.Verdicts.{Tells, Judges}
+use Rattle.simulate.specs.Walking.{walkChecks, walkRefusal, traced, Walks}
+use Rattle.simulate.specs.Verdicts.{Stands, Tells, Judges}
 use Rattle.simulate.specs.Theorems.{Theorems}
+use Rattle.simulate.proofs.Positions.{traced-length, traced-stands}
 
 pub one-set : (n : ℕ) (P : ℕ → Type 0) (a b : ℕ) → Stands n P a → Stands n P b → a ≡ b
 one-set n P a b s t =
@@ -31,21 +33,25 @@ one-set n P a b s t =
     ∙ setOf-cong n _ _ (λ x _. same-test _ _ (λ e. t .is x .1 (s .is x .0 e)) (λ e. s .is x .1 (t .is x .0 e)))
     ∙ setOf-has n b (t .fits)
 
--- lists of one length that are the same up to g, and behind it
-same-parts : (g : ℕ) (a b : List ℕ) → length a ≡ length b → ((i : ℕ) → i ≤ g → getD a i 0 ≡ getD b i 0) → drop (suc g) a ≡ drop (suc g) b → a ≡ b
-same-parts g a b long front rest = ext-getD 0 a b long λ i _. elim (decided (leb i g)) [
-  | inl q ↦ front i (leb-true i g q)
-  | inr q ↦
-      let p : suc g + (i - suc g) ≡ i = omega (arith, leb-false i g q) in
-      let at : (c : List ℕ) → getD (drop (suc g) c) (i - suc g) 0 ≡ getD c i 0 = λ c. rw p at (getD-drop (suc g) c (i - suc g) 0) in
-      sym (at a) ∙ ap (λ (c : List ℕ). getD c (i - suc g) 0) rest ∙ at b
-]
-
-one-walk : (table word : List ℕ) (g h : ℕ) (old out out′ : List ℕ) → Walks table word (Upto g) old out → Walks table word (Upto h) old out′
-    → (g ≡ h) × (out ≡ out′)
-one-walk table word g h old out out′ (_, (l, s, k, a)) (_, (m, t, r, b)) =
-    let e : g ≡ h = longest-unique (tableMeaning table) word g h l m in
-    (e, same-parts g out out′ (a ∙ sym b) (λ i q. one-set _ _ _ _ (s i q) (t i (omega arith))) (k ∙ sym (rw (← e) at r)))
+pub walked : (table word : List ℕ) (g : ℕ) (old out : List ℕ) → Walks table word (Upto g) old out
+    → Longest (tableMeaning table) word g
+    × ((i : ℕ) → i ≤ g → Stands (statesOf table) (PossibleAt (tableMeaning table) word i) (getD out i 0))
+    × (drop (suc g) out ≡ drop (suc g) old)
+    × (length out ≡ length old)
+unfolding walkRefusal
+walked table word g old out (z, (e, is)) =
+    let (fit, (long, (_, (start, _)))) = first-passed 14 (walkChecks table word (length old)) (search arith) z in
+    let S = tableMeaning table in
+    let W = fitting table fit .within in
+    let l = longest-some S W word (not-false _ start) in
+    let size = traced-length S word in
+    let room : suc (length word) ≤ length old = ltb-false _ _ long in
+    rw (is, e) (
+      l,
+      traced-stands S word W l _,
+      drop-at (traced S word) _ _ size,
+      simp (length-append, length-drop, size) (omega (arith, l .fits, room)),
+    )
 
 abbrev verdict : ℕ → Bool → ℕ → Verdict
 verdict survivors minimal nonselected = record { survivors = survivors; minimal = minimal; nonselected = nonselected }
@@ -55,7 +61,7 @@ one-verdict S T word v w a b =
     let s : v .survivors ≡ w .survivors = one-set _ _ _ _ (a .survivors) (b .survivors) in
     let m : v .minimal ≡ w .minimal = same-test _ _ (λ e. b .minimal .1 (a .minimal .0 e)) (λ e. a .minimal .1 (b .minimal .0 e)) in
     let n : v .nonselected ≡ w .nonselected = one-set _ _ _ _ (a .nonselected) (b .nonselected) in
-    ap (λ (x : ℕ). verdict x (v .minimal) (v .nonselected)) s ∙ ap (λ (x : Bool). verdict (w .survivors) x (v .nonselected)) m ∙ ap (λ (x : ℕ). verdict (w .survivors) (w .minimal) x) n
+    λ i. verdict (s i) (m i) (n i)
 
 -- 0 stands for a set without states
 stands-none : (n : ℕ) (P : ℕ → Type 0) → ((x : ℕ) → ¬ P x) → Stands n P 0
@@ -76,4 +82,4 @@ empty-set table q a word T name none v (_, tell) =
     })
 
 pub theorems : Theorems
-theorems = record { one-set = one-set; one-walk = one-walk; one-verdict = one-verdict; empty-set = empty-set }
+theorems = record { one-set = one-set; walked = walked; one-verdict = one-verdict; empty-set = empty-set }

@@ -1,3 +1,4 @@
 pub mod Walking
 pub mod Verdicts
 pub mod Theorems
+pub mod inner

@@ -1,22 +1,19 @@
 -- The verdict on a look-ahead word (document 01; 003, Definition 2): refusals 8 and 12, or what the word tells of a critical set.
 -- Assumes nothing.
-use Prim.Native.Nat.{ℕ}
-use mathlib.Core.Bool.{Bool, true, false, not, _||_}
+use Prim.Native.Nat.{ℕ, _^_, _<_}
+use mathlib.Core.Bool.{Bool, true, false, _||_}
 use mathlib.Core.Option.{Option, some, none}
 use mathlib.Core.Logic.{_↔_}
 use mathlib.Core.Path.{_≡_}
-use mathlib.Core.List.{List, [], _∷_, _++_}
-use Rattle.bitset.specs.Sets.{any}
-use Rattle.bitset.specs.Numbers.{setOf}
+use mathlib.Core.List.{List, [], _∷_}
+use Rattle.bitset.specs.Numbers.{has}
 use Rattle.semiautomata.specs.Semiautomaton.{Semiautomaton}
 use Rattle.semiautomata.specs.Predictability.{Critical, member, named}
-use Rattle.semiautomata.specs.Walks.{spells, survivors}
-use Rattle.semiautomata.specs.Selectors.{Survives, MinimalSelector, MaximalNonselector, minimalSelector, maximalNonselector}
+use Rattle.semiautomata.specs.Selectors.{Survives, MinimalSelector, MaximalNonselector}
 use Rattle.refusals.specs.Checks.{Check, firstOf}
 use Rattle.refusals.specs.Outcomes.{Outcome, refused, answered, Gives}
 use Rattle.table.specs.Table.{lettersOf, tableMeaning, unfit}
 use Rattle.walks.specs.Walking.{letterOff}
-use Rattle.simulate.specs.Walking.{Stands}
 use Rattle.simulate.specs.declared.Verdict.{Verdict}
 use Rattle.simulate.specs.declared.Judged.{Judged}
 use Rattle.simulate.specs.declared.Judged.the-variants.{Told, Refused}
@@ -35,6 +32,11 @@ verdictChecks table q a word =
 unfoldable pub verdictRefusal : List ℕ → ℕ → ℕ → List ℕ → ℕ
 verdictRefusal table q a word = firstOf (verdictChecks table q a word)
 
+-- The number stands for the set of those below n of which P holds.
+pub record Stands (n : ℕ) (P : ℕ → Type 0) (set : ℕ) : Type 0 where
+  pub fits : set < 2 ^ n
+  pub is : (x : ℕ) → (has set x ≡ true) ↔ P x
+
 -- The states of T that can walk the word, whether it is a minimal selector in T, and the states of which it is a maximal nonselector.
 pub record Tells (S : Semiautomaton) (T : Critical) (word : List ℕ) (v : Verdict) : Type 0 where
   pub survivors : Stands (S .n) (Survives S (member S T) word) (v .survivors)
@@ -52,15 +54,3 @@ TellsOf table q a word v = (T : Critical) → named (tableMeaning table) q a ≡
 
 abbrev pub Judges : List ℕ → ℕ → ℕ → List ℕ → Judged → Type 0
 Judges table q a word r = Gives (verdictRefusal table q a word) Unit (TellsOf table q a word) (outcomeOfJudged r)
-
--- THE SAME AS TESTS THAT COMPUTE
-
--- no longer word that begins with w is in R(t)
-abbrev pub ends : Semiautomaton → List ℕ → ℕ → Bool
-ends S w t = not (any (S .m) (λ a. spells S (w ++ (a ∷ [])) t))
-
--- the verdict on a word for the states of X
-pub record Computes (S : Semiautomaton) (X : ℕ → Bool) (word : List ℕ) (v : Verdict) : Type 0 where
-  pub survivors : v .survivors ≡ setOf (S .n) (survivors S X word)
-  pub minimal : v .minimal ≡ minimalSelector S X word
-  pub nonselected : v .nonselected ≡ setOf (S .n) (maximalNonselector S X word)

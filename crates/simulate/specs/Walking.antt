@@ -1,17 +1,18 @@
 -- Whole walks (document 01, Walks): refusals 8, 9, 12 and 13 in order, or g and the possible states at positions 0 to g.
 -- Assumes nothing.
-use Prim.Native.Nat.{ℕ, suc, _^_, _≤_, _<_}
-use mathlib.Core.Bool.{true, not}
-use mathlib.Core.Logic.{_↔_}
+use Prim.Native.Nat.{ℕ, suc}
+use mathlib.Core.Bool.{not}
 use mathlib.Core.Path.{_≡_}
-use mathlib.Core.List.{List, [], _∷_}
+use mathlib.Core.List.{List, [], _∷_, _++_, map}
 use lib.Dec.{ltb}
-use lib.ListN.{length, getD, drop}
+use lib.ListN.{length, take, drop}
 use Rattle.bitset.specs.Sets.{any}
-use Rattle.bitset.specs.Numbers.{has}
+use Rattle.bitset.specs.Numbers.{setOf}
+use Rattle.semiautomata.specs.Semiautomaton.{Semiautomaton}
 use Rattle.refusals.specs.Checks.{Check, firstOf}
 use Rattle.refusals.specs.Outcomes.{Outcome, refused, answered, Gives}
-use Rattle.semiautomata.specs.Walks.{Longest, PossibleAt}
+use Rattle.semiautomata.specs.Lists.{range}
+use Rattle.semiautomata.specs.Walks.{possible, longest}
 use Rattle.walks.specs.Walking.{letterOff}
 use Rattle.table.specs.Table.{statesOf, lettersOf, tableMeaning, unfit}
 use Rattle.simulate.specs.declared.Walked.{Walked}
@@ -28,23 +29,19 @@ walkChecks table word out =
 unfoldable pub walkRefusal : List ℕ → List ℕ → ℕ → ℕ
 walkRefusal table word out = firstOf (walkChecks table word out)
 
--- The number stands for the set of those below n of which P holds.
-pub record Stands (n : ℕ) (P : ℕ → Type 0) (set : ℕ) : Type 0 where
-  pub fits : set < 2 ^ n
-  pub is : (x : ℕ) → (has set x ≡ true) ↔ P x
+-- The possible states at positions 0 to g of a whole walk, as numbers, g being the length of its longest beginning on the plan.
+unfoldable pub traced : Semiautomaton → List ℕ → List ℕ
+traced S word =
+    let g = longest S word in map (λ i. setOf (S .n) (possible S (S .initial) (take g word) i)) (range 0 (suc g))
 
 -- What a whole walk answers: g.
 abbrev pub outcomeOfWalked : Walked → Outcome ℕ
 outcomeOfWalked (Upto g) = answered g
 outcomeOfWalked (Refused r) = refused r
 
--- .. and writes: the possible states at 0 to g, and the rest of the buffer as it was.
+-- .. and writes: these sets, at the front of a buffer that keeps its rest.
 abbrev pub Traces : List ℕ → List ℕ → List ℕ → List ℕ → ℕ → Type 0
-Traces table word old out g =
-    Longest (tableMeaning table) word g
-    × ((i : ℕ) → i ≤ g → Stands (statesOf table) (PossibleAt (tableMeaning table) word i) (getD out i 0))
-    × (drop (suc g) out ≡ drop (suc g) old)
-    × (length out ≡ length old)
+Traces table word old out g = (g ≡ longest (tableMeaning table) word) × (out ≡ traced (tableMeaning table) word ++ drop (suc g) old)
 
 -- What a whole walk gives; a refusal writes nothing.
 abbrev pub Walks : List ℕ → List ℕ → Walked → List ℕ → List ℕ → Type 0

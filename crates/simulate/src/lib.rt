@@ -1,15 +1,16 @@
 // Whole walks on a prepared table, and verdicts on look-ahead words (document 01, Walks; Verdict on a look-ahead word).
 // Both judge what they are lent first; the walking itself is crate walks'.
 ghost use mathlib.Core.Path.{_≡_};
-ghost use mathlib.Core.Bool.{not, _&&_};
+ghost use mathlib.Core.Bool.{not};
 ghost use Prim.Native.Nat.{ℕ, _^_, _<_};
 ghost use Rattle.bitset.specs.Sets.{any};
-ghost use Rattle.bitset.specs.Numbers.{has, setOf};
+ghost use Rattle.bitset.specs.Numbers.{has};
 ghost use Rattle.semiautomata.specs.Walks.{step};
 ghost use Rattle.semiautomata.specs.Successors.{successors, Fit};
 ghost use Rattle.walks.specs.Walking.{Letters};
 ghost use Rattle.simulate.specs.Walking.{Walks};
-ghost use Rattle.simulate.specs.Verdicts.{ends, Computes, Judges};
+ghost use Rattle.simulate.specs.Verdicts.{Judges};
+ghost use Rattle.simulate.specs.inner.Verdicts.{endingIn, Computes};
 
 // What a whole walk answers: the length of its longest beginning on the plan, or a refusal.
 pub enum Walked {
@@ -34,23 +35,21 @@ pub enum Judged {
 pub fn walk(table: &[u64], word: &[u8], out: &mut [u64]) -> Walked
     ensures { λ r. ⌜ Walks (now (table .entry)) (now (word .entry)) r (now (out .entry)) (now (out .exit)) ⌝ }
 {
-    if table::is_unfit(table) {
+    let head = table::head_of(table);
+    if !head.fit {
         return Walked::Refused(8);
     }
     if out.len() <= word.len() {
         return Walked::Refused(9);
     }
-    let m = table[1];
-    if walks::letter_off(word, m) {
+    if walks::letter_off(word, head.m as u64) {
         return Walked::Refused(12);
     }
-    let starts = table[3];
-    if starts == 0 {
+    if head.starts == 0 {
         return Walked::Refused(13);
     }
-    let n = table[0] as usize;
-    let sets = &table[4..];
-    let g = walks::trace(sets, n, m as usize, starts, word, out);
+    let sets = &table[table::SETS_FROM..];
+    let g = walks::trace(sets, head.n, head.m, head.starts, word, out);
     Walked::Upto(g)
 }
 
@@ -71,7 +70,7 @@ fn stuck(sets: &[u64], n: usize, m: usize, set: u64) -> bool
 // The members of a set that can walk no longer word that begins with this one.
 fn ending(sets: &[u64], n: usize, m: usize, set: u64, word: &[u8]) -> u64
     requires { ⌜ Fit n m (now sets) × (set < 2 ^ n) × Letters m (now word) ⌝ }
-    ensures { λ r. ⌜ ((starts : ℕ) → r ≡ setOf n (λ t. has set t && ends (successors n m starts (now (sets .entry))) (now (word .entry)) t)) ⌝ }
+    ensures { λ r. ⌜ ((starts : ℕ) → r ≡ endingIn (successors n m starts (now (sets .entry))) set (now (word .entry))) ⌝ }
 {
     let mut out: u64 = 0;
     let mut rest = set;
@@ -126,21 +125,22 @@ fn judge_set(sets: &[u64], n: usize, m: usize, set: u64, word: &[u8]) -> Verdict
 pub fn judge(table: &[u64], state: u32, letter: u32, word: &[u8]) -> Judged
     ensures { λ r. ⌜ Judges (now (table .entry)) state letter (now (word .entry)) r ⌝ }
 {
-    if table::is_unfit(table) {
+    let head = table::head_of(table);
+    if !head.fit {
         return Judged::Refused(8);
     }
-    let n = table[0];
-    let m = table[1];
-    if walks::letter_off(word, m) {
+    let n = head.n;
+    let m = head.m;
+    if walks::letter_off(word, m as u64) {
         return Judged::Refused(12);
     }
-    let sets = &table[4..];
+    let sets = &table[table::SETS_FROM..];
     if (state == 255) & (letter == 0) {
-        return Judged::Told(judge_set(sets, n as usize, m as usize, table[3], word));
+        return Judged::Told(judge_set(sets, n, m, head.starts, word));
     }
-    if ((state as u64) < n) & ((letter as u64) < m) {
-        let set = sets[state as usize * m as usize + letter as usize];
-        return Judged::Told(judge_set(sets, n as usize, m as usize, set, word));
+    if ((state as usize) < n) & ((letter as usize) < m) {
+        let set = sets[state as usize * m + letter as usize];
+        return Judged::Told(judge_set(sets, n, m, set, word));
     }
     Judged::Refused(12)
 }

@@ -4,27 +4,26 @@ use Prim.Native.Nat.{ℕ, _+_, _≤_}
 use mathlib.Core.Bool.{false}
 use mathlib.Core.Logic.{inr}
 use mathlib.Core.Path.{_≡_, refl}
-use mathlib.Core.List.{List, [], _∷_, _++_}
+use mathlib.Core.List.{List, [], _∷_, _++_, flatMap}
 use native.Mathlib.Omega.{arith}
 use lib.ListN.{length, replicate}
 use Rattle.bitset.specs.Sets.{any, size, least}
-use Rattle.bitset.specs.Numbers.{has}
+use Rattle.bitset.specs.Numbers.{has, setOf}
 use Rattle.semiautomata.specs.Predictability.{Lookahead}
 use Rattle.semiautomata.specs.Walks.{spells, step, possible, walkable}
 use Rattle.streaming.specs.PlainWalk.{limit}
 use Rattle.streaming.specs.Calls.{resolved, nothing}
-use Rattle.streaming.specs.Streaming.{base, sound, soleAt, settle, opened, feed}
+use Rattle.streaming.specs.Streaming.{base, sound, soleAt, settle}
 use Rattle.semiautomata.specs.Successors.{place}
 use Rattle.plan.specs.Bytes.{meaning, outcomeOfReading, reading, WellFormed}
 use Rattle.plan.specs.declared.Reading.the-variants.{Counts}
-use Rattle.table.specs.Table.{lookaheadOf, tableMeaning, unfit}
-use Rattle.prepare.specs.Preparing.{Tabled}
-use Rattle.prepare.proofs.Answers.{tabled}
+use Rattle.table.specs.Table.{lookaheadOf, tableMeaning, unfit, laidOut}
+use Rattle.plan.proofs.Refusals.{well-formed-sized}
+use Rattle.prepare.proofs.Answers.{sized-reads}
 use Rattle.records.specs.Bytes.{tidy}
 use Rattle.predictor.specs.Calls.{openedOn, fedOn}
 use Rattle.samples.specs.Plans.{bytes, A as sample-A, B as sample-B}
 use Rattle.samples.proofs.Plans.{samples-hold}
-use Rattle.samples.proofs.TableA.{is-loaded}
 use Rattle.text.specs.declared.Printed.the-variants.{Going, Ended}
 use Rattle.steps.specs.declared.Stage.the-variants.{Plan, Letters}
 use Rattle.lines.specs.Lines.{countsLine, lookaheadLine, refusedLine, resolutionLine, Appended}
@@ -69,8 +68,9 @@ w = samples-hold .0 .well-formed
 abbrev table : List ℕ
 table = 3 ∷ 1 ∷ 1 ∷ 1 ∷ 2 ∷ 6 ∷ 0 ∷ replicate 2045 0
 
-is-tabled : Tabled (meaning A) 1 zeroTable table
-is-tabled = tabled A w is-loaded refl refl 1 (samples-hold .0 .ahead) (omega arith) refl
+is-laid : table ≡ laidOut (meaning A) 1 zeroTable
+unfolding flatMap setOf any
+is-laid = refl
 
 abbrev r1 : List ℕ
 r1 = 0 ∷ 0 ∷ 0 ∷ 0 ∷ 255 ∷ replicate 2019 0
@@ -85,19 +85,19 @@ abbrev r4 : List ℕ
 r4 = 3 ∷ 0 ∷ 0 ∷ 0 ∷ 1 ∷ 0 ∷ 1 ∷ replicate 2017 0
 
 opened-so : (nothing ≡ openedOn table zeroRecord .reply) × (r1 ≡ openedOn table zeroRecord .state)
-unfolding openedOn opened unfit settle any has
+unfolding openedOn unfit settle any has
 opened-so = (refl, refl)
 
 fed1 : (resolved 0 0 ≡ fedOn table r1 0 .reply) × (r2 ≡ fedOn table r1 0 .state)
-unfolding fedOn feed unfit tidy sound base limit settle soleAt walkable possible spells step any size least has
+unfolding fedOn unfit tidy sound base limit settle soleAt walkable possible spells step any size least has
 fed1 = (refl, refl)
 
 fed2 : (resolved 1 1 ≡ fedOn table r2 0 .reply) × (r3 ≡ fedOn table r2 0 .state)
-unfolding fedOn feed unfit tidy sound base limit settle soleAt walkable possible spells step any size least has
+unfolding fedOn unfit tidy sound base limit settle soleAt walkable possible spells step any size least has
 fed2 = (refl, refl)
 
 fed3 : (resolved 2 1 ≡ fedOn table r3 0 .reply) × (r4 ≡ fedOn table r3 0 .state)
-unfolding fedOn feed unfit tidy sound base limit settle soleAt walkable possible spells step any size least has
+unfolding fedOn unfit tidy sound base limit settle soleAt walkable possible spells step any size least has
 fed3 = (refl, refl)
 
 is-read : outcomeOfReading (Counts 3 1 1 3) ≡ reading A
@@ -111,7 +111,7 @@ is-plan = refl
 begun : (r : ℕ) × (out : List ℕ) × Begins A zeroTable zeroRecord (Going r) table r1 lines out
 begun =
     let L = samples-hold .0 .ahead in
-    let t = is-tabled in
+    let t = sized-reads (well-formed-sized A w) L zeroTable is-laid in
     let long = counts-width 3 1 1 3 (omega arith) (omega arith) (omega arith) (omega arith) in
     let put1 = puts lines 0 (countsLine 3 1 1 3) (omega (arith, long)) in
     let put2 = puts-on put1 (lookaheadLine 1) (omega (arith, long, lookahead-width 1 (omega arith))) in
@@ -122,7 +122,7 @@ begun =
       _,
       begun-well A is-plan is-read put1 (Going _) zeroTable zeroRecord table r1 _ (omega arith, omega arith, omega arith)
           (counted L t put2 (Going _) _ r1 laid)
-          (opens 1 L t (opened-so .1) (rw (← (opened-so .0)))),
+          (opens 1 L is-laid (opened-so .1) (rw (← (opened-so .0)))),
     )
 
 abbrev two : List ℕ

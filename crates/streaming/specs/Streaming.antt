@@ -89,17 +89,22 @@ openChecks S = record { number = 13; applies = not (any (S .n) (S .initial)) } �
 unfoldable pub opened : Semiautomaton → ℕ → Result Rec
 opened S k = checked (openChecks S) unopened (settled S k (S .initial) unopened 0 [])
 
--- A letter fed: it is read behind the held letters before anything is resolved.
-abbrev pub feedChecks : Semiautomaton → ℕ → Rec → ℕ → List Check
-feedChecks S k r a =
-    soundCheck S k r
-    ∷ record { number = 11; applies = leb limit (r .fed) }
+-- A letter fed: it is read behind the held letters before anything is resolved. Its refusals on a sound record, and on any.
+abbrev pub takeChecks : Semiautomaton → ℕ → Rec → ℕ → List Check
+takeChecks S k r a =
+    record { number = 11; applies = leb limit (r .fed) }
     ∷ record { number = 12; applies = leb (S .m) a }
     ∷ record { number = 13; applies = not (walkable S (base S k r) (r .held ++ (a ∷ []))) }
     ∷ []
 
+abbrev pub feedChecks : Semiautomaton → ℕ → Rec → ℕ → List Check
+feedChecks S k r a = soundCheck S k r ∷ takeChecks S k r a
+
+abbrev pub settledBy : Semiautomaton → ℕ → Rec → ℕ → Result Rec
+settledBy S k r a = settled S k (base S k r) r (suc (r .fed)) (r .held ++ (a ∷ []))
+
 unfoldable pub feed : Semiautomaton → ℕ → Rec → ℕ → Result Rec
-feed S k r a = checked (feedChecks S k r a) r (settled S k (base S k r) r (suc (r .fed)) (r .held ++ (a ∷ [])))
+feed S k r a = checked (feedChecks S k r a) r (settledBy S k r a)
 
 -- 14 of a letter: it is read, and then the position that is due is undecided.
 abbrev pub UndecidedBy : Semiautomaton → ℕ → Rec → ℕ → Type 0

@@ -20,14 +20,14 @@ use Rattle.bitset.proofs.Bits.{has-high, fits, mask-setOf, and-mask-fits, fits-
 use Rattle.semiautomata.specs.Semiautomaton.{Within}
 use Rattle.semiautomata.specs.Successors.{Fit}
 use Rattle.semiautomata.proofs.Successors.{fit-within}
-use Rattle.table.specs.Table.{statesOf, lettersOf, lookaheadOf, initialOf, setsFrom, setsOf, tableMeaning, unfit}
+use Rattle.table.specs.Table.{maxStates, maxLetters, maxLookahead, statesOf, lettersOf, lookaheadOf, initialOf, setsFrom, setsOf, tableMeaning, unfit}
 
 -- what holds of a table to which refusal 8 does not apply
 pub record Fitting (table : List ℕ) : Type 0 where
   pub some-state : 1 ≤ statesOf table
-  pub states : statesOf table ≤ 64
+  pub states : statesOf table ≤ maxStates
   pub some-letter : 1 ≤ lettersOf table
-  pub letters : lettersOf table ≤ 32
+  pub letters : lettersOf table ≤ maxLetters
   pub room : setsFrom + statesOf table * lettersOf table ≤ length table
   pub lookahead : lookaheadOf table ≤ statesOf table * (statesOf table - 1) / 2
   pub initial : initialOf table < 2 ^ statesOf table
@@ -37,9 +37,9 @@ pub record Fitting (table : List ℕ) : Type 0 where
 -- n and m are in range
 pub record Ranged (table : List ℕ) : Type 0 where
   pub some-state : 1 ≤ statesOf table
-  pub states : statesOf table ≤ 64
+  pub states : statesOf table ≤ maxStates
   pub some-letter : 1 ≤ lettersOf table
-  pub letters : lettersOf table ≤ 32
+  pub letters : lettersOf table ≤ maxLetters
 
 pub fitting-of : {table : List ℕ} → Ranged table → setsFrom + statesOf table * lettersOf table ≤ length table
     → lookaheadOf table ≤ statesOf table * (statesOf table - 1) / 2 → initialOf table < 2 ^ statesOf table
@@ -80,7 +80,8 @@ fitting table e =
     let (n1, n2) = within-out 1 64 (statesOf table) t2 in
     let (m1, m2) = within-out 1 32 (lettersOf table) t3 in
     fitting-of (record { some-state = n1; states = n2; some-letter = m1; letters = m2 }) (ltb-false _ _ t1)
-    (ltb-false _ _ t4) (leb-false _ _ t5) (λ i h. leb-false _ _ (any-not _ (λ i. leb (2 ^ statesOf table) (getD (setsOf table) i 0)) t6 i h))
+    (ltb-false _ _ t4) (leb-false _ _ t5)
+    (λ i h. leb-false _ _ (any-not _ (λ i. leb (2 ^ statesOf table) (getD (setsOf table) i 0)) t6 i h))
 
 pub fitting-fit : {table : List ℕ} → Fitting table → unfit table ≡ false
 unfolding unfit
@@ -123,16 +124,22 @@ inside table e =
     let (a, b) = or-out _ _ e in
     record { some-state = ltb-false _ _ a; states = ltb-false _ _ b; some-letter = ltb-false _ _ c; letters = ltb-false _ _ d }
 
-module _ {table : List ℕ} (r : Ranged table) where
-  -- no product wraps
-  pub cells-le : statesOf table * lettersOf table ≤ 2048
-  cells-le = mul-le-mul (r .states) (r .letters)
+-- no product wraps
+pub cells-le : {table : List ℕ} → Ranged table → statesOf table * lettersOf table ≤ maxStates * maxLetters
+cells-le r = mul-le-mul (r .states) (r .letters)
 
-  pub pairs-le : statesOf table * (statesOf table - 1) ≤ 4032
-  pairs-le = let h : statesOf table - 1 ≤ 63 = omega (arith, r .states) in mul-le-mul (r .states) h
+pub pairs-le : (n : ℕ) → n ≤ maxStates → n * (n - 1) ≤ 2 * maxLookahead
+pairs-le n h = let g : n - 1 ≤ 63 = omega arith in mul-le-mul h g
+
+pub lookahead-le : {table : List ℕ} → Fitting table → lookaheadOf table ≤ maxLookahead
+lookahead-le {table} f = omega (arith, pairs-le (statesOf table) (f .states), f .lookahead)
+
+-- the number joins all numbers of the list
+abbrev pub Joins : ℕ → List ℕ → Type 0
+Joins all l = (t : ℕ) → has all t ≡ any (length l) (λ i. has (getD l i 0) t)
 
 -- all numbers of a list joined lie below 2 ^ n exactly where each does
-module _ (n all : ℕ) (l : List ℕ) (u : (t : ℕ) → has all t ≡ any (length l) (λ i. has (getD l i 0) t)) where
+module _ (n all : ℕ) (l : List ℕ) (u : Joins all l) where
   each-below : all < 2 ^ n → (i : ℕ) → i < length l → getD l i 0 < 2 ^ n
   each-below h i g = fits n _ (λ t k. not-so _ (λ e. false≢true (sym (has-high n all t h k) ∙ u t ∙ any-in _ _ i g e)))
 
@@ -155,10 +162,11 @@ module _ (table : List ℕ) (c : ℕ) (h : setsFrom + c ≤ length table) where
       let e : 3 + suc i ≡ setsFrom + i = omega arith in
       sides-at (suc i) (omega arith) ∙ ap (λ (j : ℕ). getD table j 0) e ∙ sym (getD-drop setsFrom table i 0)
 
-  module _ (n all : ℕ) (u : (t : ℕ) → has all t ≡ any (length (sides table c)) (λ i. has (getD (sides table c) i 0) t)) where
+  module _ (n all : ℕ) (u : Joins all (sides table c)) where
     sides-below : all < 2 ^ n → (initialOf table < 2 ^ n) × ((i : ℕ) → i < c → getD (setsOf table) i 0 < 2 ^ n)
     sides-below b =
-        let at : (i : ℕ) → i < suc c → getD (sides table c) i 0 < 2 ^ n = λ i g. each-below n all (sides table c) u b i (rw sides-length g) in
+        let at : (i : ℕ) → i < suc c → getD (sides table c) i 0 < 2 ^ n
+        = λ i g. each-below n all (sides table c) u b i (rw sides-length g) in
         (rw (sides-at 0 (omega arith)) at (at 0 (omega arith)), λ i g. rw (← sides-set i g) (at (suc i) (omega arith)))
 
     below-sides : initialOf table < 2 ^ n → ((i : ℕ) → i < c → getD (setsOf table) i 0 < 2 ^ n) → all < 2 ^ n
@@ -170,7 +178,7 @@ module _ (table : List ℕ) (c : ℕ) (h : setsFrom + c ≤ length table) where
 
 -- what is left to test once n, m and the length are in range
 pub tested : {table : List ℕ} → Ranged table → setsFrom + statesOf table * lettersOf table ≤ length table → (all mask : ℕ)
-    → ((t : ℕ) → has all t ≡ any (length (sides table (statesOf table * lettersOf table))) (λ i. has (getD (sides table (statesOf table * lettersOf table)) i 0) t))
+    → Joins all (sides table (statesOf table * lettersOf table))
     → mask ≡ setOf 64 (λ t. ltb t (statesOf table))
     → (ltb (statesOf table * (statesOf table - 1) / 2) (lookaheadOf table) || not (eqb (bitAnd all mask) all)) ≡ unfit table
 tested {table} r l all mask u e = same-test _ _
@@ -195,5 +203,6 @@ tested {table} r l all mask u e = same-test _ _
     built : left ≡ false → Fitting table
     built q =
         let (k, q) = or-out _ _ q in
-        let (a, b) = sides-below table _ l (statesOf table) all u (and-mask-fits (statesOf table) all (rw low at (eqb-true (bitAnd all mask) all (not-false _ q)))) in
+        let m = and-mask-fits (statesOf table) all (rw low at (eqb-true (bitAnd all mask) all (not-false _ q))) in
+        let (a, b) = sides-below table _ l (statesOf table) all u m in
         fitting-of r l (ltb-false _ _ k) a b

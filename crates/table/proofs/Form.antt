@@ -1,18 +1,43 @@
--- Laws of the form of a table: what is written, and what it then means.
+-- Laws of the prepared form: what is written is the form, and what the form means.
 -- Assumes nothing.
-use Prim.Native.Nat.{ℕ, _+_, _-_, _*_, _/_, _^_, _≤_, _<_}
-use mathlib.Core.Bool.{false}
+use Prim.Native.Nat.{ℕ, _+_, _*_, _^_, _≤_, _<_}
+use mathlib.Core.Bool.{Bool, true, false}
 use mathlib.Core.Path.{_≡_, refl, sym, _∙_, ap}
 use mathlib.Core.List.{List, [], _∷_, _++_, append-assoc}
 use native.Mathlib.Numerals.{add-one}
 use native.Mathlib.Omega.{arith}
-use lib.ListN.{length, getD, take, drop, set, length-append, length-take, length-drop, List·getD-append}
-use lib.Seq.{sets-eq, drop-at, getD-take, length-take-le, paste, paste-zero, paste-suc, length-paste}
-use Rattle.bitset.specs.Numbers.{has}
+use lib.Dec.{ltb}
+use lib.ListN.{length, getD, take, drop, set, length-append, List·getD-append, take-append-drop}
+use lib.Seq.{sets-eq, drop-at, drop-drop, getD-take, length-take-le, paste, paste-zero, paste-suc, length-paste}
+use borrow.Author.Tests.{lt-ltb}
+use Rattle.bitset.specs.Numbers.{has, setOf}
+use Rattle.bitset.proofs.Bits.{setOf-lt, setOf-has, setOf-cong, has-setOf}
+use Rattle.bitset.proofs.Tests.{and-out, same-test}
+use Rattle.semiautomata.specs.Semiautomaton.{Semiautomaton}
 use Rattle.semiautomata.specs.Successors.{place, successors, Fit}
-use Rattle.semiautomata.proofs.Successors.{place-lt, edge-is, fit-within, successors-are}
-use Rattle.table.specs.Table.{statesOf, lettersOf, lookaheadOf, initialOf, setsFrom, setsOf, tableMeaning, unfit, form}
+use Rattle.semiautomata.proofs.Successors.{place-lt, edge-is, successors-are, state-lt, letter-lt, place-of}
+use Rattle.table.specs.Table.{statesOf, lettersOf, lookaheadOf, initialOf, setsFrom, setsOf, tableMeaning, unfit}
+use Rattle.table.specs.Table.{setsInOrder, tableOf, laidOut, Preparable}
+use Rattle.table.proofs.Listed.{rows-length, rows-at, rows-are}
 use Rattle.table.proofs.Fitness.{Fitting, fitting-of, fitting-fit}
+
+pub form-length : (S : Semiautomaton) (k : ℕ) → length (tableOf S k) ≡ setsFrom + S .n * S .m
+form-length S k = let e = rows-length (λ q a. setOf (S .n) (S .edge q a)) (S .m) 0 (S .n) in rw e (omega arith)
+
+-- numbers that are fit are the form of what they mean
+module _ (n m k starts : ℕ) (sets : List ℕ) (f : Fit n m sets) (h : starts < 2 ^ n) where
+  pub sets-in-order : take (n * m) sets ≡ setsInOrder (successors n m starts sets)
+  sets-in-order =
+      rows-are (λ q a. setOf n (successors n m starts sets .edge q a)) m n _ (length-take-le _ sets (f .room)) λ q a hq ha.
+      let i = place-lt n m q a hq ha in
+      getD-take (n * m) sets _ 0 i
+      ∙ sym (setOf-has n _ (f .below _ i)) ∙ setOf-cong n _ _ (λ t _. sym (edge-is n m starts sets q a t hq ha))
+
+  pub laid : (old : List ℕ)
+      → n ∷ m ∷ k ∷ starts ∷ take (n * m) sets ++ drop (setsFrom + n * m) old ≡ laidOut (successors n m starts sets) k old
+  laid old =
+      (λ i. n ∷ m ∷ k ∷ sym (setOf-has n starts h) i ∷ sets-in-order i ++ drop (setsFrom + n * m) old)
+      ∙ ap (λ (c : ℕ). tableOf (successors n m starts sets) k ++ drop c old) (sym (form-length (successors n m starts sets) k))
 
 -- THE WRITING
 
@@ -30,40 +55,65 @@ copied-none old sets = record { is = paste-zero old setsFrom sets; long = refl }
 module _ {old sets : List ℕ} {i : ℕ} {table : List ℕ} (o : Copied old sets i table) where
   pub copied-next : setsFrom + i < length old → i < length sets → Copied old sets (i + 1) (set table (setsFrom + i) (getD sets i 0))
   copied-next h g =
-      let e : set table (setsFrom + i) (getD sets i 0) ≡ paste old setsFrom sets (i + 1) = rw (add-one, o .is) (paste-suc old setsFrom sets i 0 h g) in
+      let e : set table (setsFrom + i) (getD sets i 0) ≡ paste old setsFrom sets (i + 1) =
+      rw (add-one, o .is) (paste-suc old setsFrom sets i 0 h g) in
       record { is = e; long = rw e (length-paste old setsFrom sets (i + 1) (omega arith) (omega arith)) }
 
   -- and the four numbers at the front
-  pub copied-all : (n m k starts : ℕ) → i ≡ n * m → setsFrom + n * m ≤ length old
-      → set (set (set (set table 0 n) 1 m) 2 k) 3 starts ≡ form n m k starts sets old
-  copied-all n m k starts e h =
+  pub copied-all : (n m k starts : ℕ) → i ≡ n * m → Fit n m sets → starts < 2 ^ n → setsFrom + n * m ≤ length old
+      → set (set (set (set table 0 n) 1 m) 2 k) 3 starts ≡ laidOut (successors n m starts sets) k old
+  copied-all n m k starts e f b h =
       sets-eq (n ∷ m ∷ k ∷ starts ∷ []) table 0 (omega (arith, o .long))
       ∙ ap (λ (l : List ℕ). n ∷ m ∷ k ∷ starts ∷ l) (ap (drop setsFrom) (o .is) ∙ pasted setsFrom old sets i (omega arith) ∙ rw e)
+      ∙ laid n m k starts sets f b old
 
--- WHAT IT THEN MEANS
+-- A FIT TABLE
 
-module _ (n m k starts : ℕ) (sets old : List ℕ) where
-  pub form-front : let T = form n m k starts sets old in (statesOf T ≡ n) × (lettersOf T ≡ m) × (lookaheadOf T ≡ k) × (initialOf T ≡ starts)
-  form-front = (refl, refl, refl, refl)
+in-front : (t : List ℕ) → setsFrom ≤ length t → t ≡ statesOf t ∷ lettersOf t ∷ lookaheadOf t ∷ initialOf t ∷ setsOf t
+in-front [] h = absurd (omega arith)
+in-front (a ∷ []) h = absurd (omega arith)
+in-front (a ∷ b ∷ []) h = absurd (omega arith)
+in-front (a ∷ b ∷ c ∷ []) h = absurd (omega arith)
+in-front (a ∷ b ∷ c ∷ d ∷ l) h = refl
 
-  module _ (f : Fit n m sets) where
-    form-set : (i : ℕ) → i < n * m → getD (setsOf (form n m k starts sets old)) i 0 ≡ getD sets i 0
-    form-set i h =
-        let g : i < length (take (n * m) sets) = rw (length-take-le (n * m) sets (f .room)) h in
-        List·getD-append (take (n * m) sets) _ 0 i g ∙ getD-take (n * m) sets i 0 h
+pub one-form : {t : List ℕ} → Fitting t → t ≡ laidOut (tableMeaning t) (lookaheadOf t) t
+one-form {t} f =
+    let c = statesOf t * lettersOf t in
+    in-front t (omega (arith, f .room))
+    ∙ ap (λ (l : List ℕ). statesOf t ∷ lettersOf t ∷ lookaheadOf t ∷ initialOf t ∷ l)
+    (sym (take-append-drop c (setsOf t)) ∙ ap (λ (l : List ℕ). take c (setsOf t) ++ l) (drop-drop c setsFrom t))
+    ∙ laid _ _ (lookaheadOf t) _ _ (f .fit) (f .initial) t
 
-    pub form-length : setsFrom + n * m ≤ length old → length (form n m k starts sets old) ≡ length old
-    form-length h = simp (length-append, length-take, length-drop) (omega (arith, f .room))
+-- WHAT IT MEANS
 
-    pub form-meaning : starts < 2 ^ n → tableMeaning (form n m k starts sets old) ≡ successors n m starts sets
-    form-meaning h =
-        successors-are (successors n m starts sets) (fit-within n m starts sets f h) starts (setsOf (form n m k starts sets old)) (λ s. refl)
-        (λ q a t g l. ap (λ (x : ℕ). has x t) (form-set (place m q a) (place-lt n m q a g l)) ∙ sym (edge-is n m starts sets q a t g l))
+module _ (S : Semiautomaton) (k : ℕ) (P : Preparable S k) (rest : List ℕ) where
+  form-set : (q a : ℕ) → q < S .n → a < S .m → getD (setsOf (tableOf S k ++ rest)) (place (S .m) q a) 0 ≡ setOf (S .n) (S .edge q a)
+  form-set q a h g =
+      let f : ℕ → ℕ → ℕ = λ q a. setOf (S .n) (S .edge q a) in
+      let i : place (S .m) q a < length (setsInOrder S) = rw (rows-length f (S .m) 0 (S .n)) (place-lt (S .n) (S .m) q a h g) in
+      List·getD-append (setsInOrder S) rest 0 _ i ∙ rows-at f (S .m) 0 (S .n) q a q h g (omega arith)
 
-    pub form-fitting : 1 ≤ n → 1 ≤ m → k ≤ n * (n - 1) / 2 → starts < 2 ^ n → setsFrom + n * m ≤ length old → Fitting (form n m k starts sets old)
-    form-fitting a b c d h =
-        fitting-of (record { some-state = a; states = f .states; some-letter = b; letters = f .letters }) (rw (form-length h) h) c d
-        (λ i g. rw (form-set i g) (f .below i g))
+  pub form-means : tableMeaning (tableOf S k ++ rest) ≡ S
+  form-means =
+      successors-are S (P .within) _ (setsOf (tableOf S k ++ rest)) (same _ (P .within .initial-lt))
+      (λ q a t h g. ap (λ (x : ℕ). has x t) (form-set q a h g) ∙ same _ (P .within .to-lt q a) t)
+    where
+      same : (X : ℕ → Bool) → ((t : ℕ) → X t ≡ true → t < S .n) → (t : ℕ) → has (setOf (S .n) X) t ≡ X t
+      same X below t =
+          has-setOf (S .n) X t ∙ same-test _ _ (λ e. and-out (ltb t (S .n)) (X t) e .1) (λ e. rw (lt-ltb t (S .n) (below t e), e))
 
-    pub form-fit : 1 ≤ n → 1 ≤ m → k ≤ n * (n - 1) / 2 → starts < 2 ^ n → setsFrom + n * m ≤ length old → unfit (form n m k starts sets old) ≡ false
-    form-fit a b c d h = fitting-fit (form-fitting a b c d h)
+  pub form-fitting : Fitting (tableOf S k ++ rest)
+  form-fitting =
+      fitting-of (record { some-state = P .some-state; states = P .states; some-letter = P .some-letter; letters = P .letters })
+      (rw (length-append, form-length S k) (omega arith)) (P .lookahead) (setOf-lt _ _) λ i h.
+      rw (← place-of (S .n) (S .m) i h, form-set _ _ (state-lt (S .n) (S .m) i h) (letter-lt (S .n) (S .m) i h)) (setOf-lt _ _)
+
+-- what a table reads as: it is fit, means S, and has the look-ahead k
+pub record Reads (S : Semiautomaton) (k : ℕ) (table : List ℕ) : Type 0 where
+  pub fit : unfit table ≡ false
+  pub means : tableMeaning table ≡ S
+  pub k-is : lookaheadOf table ≡ k
+
+pub form-reads : {S : Semiautomaton} {k : ℕ} {table : List ℕ} (rest : List ℕ) → Preparable S k → table ≡ tableOf S k ++ rest → Reads S k table
+form-reads {S} {k} rest P e =
+    rw e (record { fit = fitting-fit (form-fitting S k P rest); means = form-means S k P rest; k-is = refl })

@@ -1,4 +1,5 @@
+pub mod Listed
 pub mod Fitness
 pub mod Form
-pub mod OneForm
+pub mod Heads
 pub mod Theorems

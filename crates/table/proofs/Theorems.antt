@@ -1,10 +1,29 @@
 -- The theorems of specs/Theorems.antt.
 -- Assumes nothing.
-use mathlib.Core.List.{List}
 use Prim.Native.Nat.{ℕ}
+use mathlib.Core.Bool.{false}
+use mathlib.Core.List.{List}
+use mathlib.Core.Path.{_≡_}
+use Rattle.table.specs.Table.{lookaheadOf, tableMeaning, unfit, Preparable}
 use Rattle.table.specs.Theorems.{Theorems}
 use Rattle.table.proofs.Fitness.{fitting}
-use Rattle.table.proofs.OneForm.{one-form}
+use Rattle.table.proofs.Form.{form-length, one-form, form-reads}
+
+preparable : (table : List ℕ) → unfit table ≡ false → Preparable (tableMeaning table) (lookaheadOf table)
+preparable table e =
+    let f = fitting table e in record {
+      some-state = f .some-state;
+      states = f .states;
+      some-letter = f .some-letter;
+      letters = f .letters;
+      lookahead = f .lookahead;
+      within = f .within;
+    }
 
 pub theorems : (table : List ℕ) → Theorems table
-theorems table = record { within = λ e. fitting table e .within; one-form = λ other e f. one-form (fitting table e) (fitting other f) }
+theorems table = record {
+  preparable = preparable table;
+  one-form = λ e. one-form (fitting table e);
+  form-read = λ S k P rest e. let r = form-reads rest P e in (r .fit, r .means, r .k-is);
+  form-length = form-length;
+}

@@ -1,14 +1,33 @@
 -- The prepared plan of document 01, a list of 64-bit numbers: n, m, k, the starts, then at 4 + stake × m + code the set of stakes led to.
 -- Assumes nothing.
-use Prim.Native.Nat.{ℕ, _+_, _-_, _*_, _/_, _^_}
-use mathlib.Core.Bool.{Bool, false, not, _||_}
-use mathlib.Core.List.{List, [], _∷_, _++_}
+use Prim.Native.Nat.{ℕ, _+_, _-_, _*_, _/_, _^_, _≤_}
+use mathlib.Core.Bool.{Bool, true, false, not, cond, _||_}
+use mathlib.Core.List.{List, [], _∷_, _++_, map, flatMap}
 use lib.Dec.{ltb, leb}
-use lib.ListN.{length, getD, take, drop}
+use lib.ListN.{length, getD, drop}
 use Rattle.bitset.specs.Sets.{any}
-use Rattle.semiautomata.specs.Semiautomaton.{Semiautomaton}
+use Rattle.bitset.specs.Numbers.{setOf}
+use Rattle.semiautomata.specs.Semiautomaton.{Semiautomaton, Within}
 use Rattle.refusals.specs.Checks.{within}
+use Rattle.semiautomata.specs.Lists.{range}
 use Rattle.semiautomata.specs.Successors.{successors}
+use Rattle.table.specs.declared.Head.{Head}
+
+-- The greatest sizes: states, letters.
+abbrev pub maxStates : ℕ
+maxStates = 64
+
+abbrev pub maxLetters : ℕ
+maxLetters = 32
+
+-- The most that a look-ahead of n states can be (Theorem 5), and of any plan.
+abbrev pub mostAhead : ℕ → ℕ
+mostAhead n = n * (n - 1) / 2
+
+abbrev pub maxLookahead : ℕ
+maxLookahead = 2016
+
+-- WHAT A TABLE MEANS
 
 -- The numbers at the front, and where the successor sets begin.
 abbrev pub statesOf : List ℕ → ℕ
@@ -38,9 +57,9 @@ tableMeaning table = successors (statesOf table) (lettersOf table) (initialOf ta
 abbrev pub tableTests : List ℕ → List Bool
 tableTests table =
     ltb (length table) (setsFrom + statesOf table * lettersOf table)
-    ∷ not (within 1 64 (statesOf table))
-    ∷ not (within 1 32 (lettersOf table))
-    ∷ ltb (statesOf table * (statesOf table - 1) / 2) (lookaheadOf table)
+    ∷ not (within 1 maxStates (statesOf table))
+    ∷ not (within 1 maxLetters (lettersOf table))
+    ∷ ltb (mostAhead (statesOf table)) (lookaheadOf table)
     ∷ leb (2 ^ statesOf table) (initialOf table)
     ∷ any (statesOf table * lettersOf table) (λ i. leb (2 ^ statesOf table) (getD (setsOf table) i 0))
     ∷ []
@@ -54,6 +73,35 @@ some (b ∷ bs) = b || some bs
 unfoldable pub unfit : List ℕ → Bool
 unfit table = some (tableTests table)
 
--- The form for n, m, k, the initial states and successor sets, written into a buffer that keeps its rest.
-abbrev pub form : ℕ → ℕ → ℕ → ℕ → List ℕ → List ℕ → List ℕ
-form n m k starts sets old = n ∷ m ∷ k ∷ starts ∷ take (n * m) sets ++ drop (setsFrom + n * m) old
+-- The head of a table: that it is fit, n, m, k and the set of initial states; zeros where refusal 8 applies.
+abbrev pub front : List ℕ → Head
+front table = record { fit = true; n = statesOf table; m = lettersOf table; k = lookaheadOf table; starts = initialOf table }
+
+abbrev pub unread : Head
+unread = record { fit = false; n = 0; m = 0; k = 0; starts = 0 }
+
+abbrev pub headOf : List ℕ → Head
+headOf table = cond (unfit table) unread (front table)
+
+-- THE PREPARED FORM
+
+-- The sets of S: for each state in order and each letter in order, the states that it leads to.
+abbrev pub setsInOrder : Semiautomaton → List ℕ
+setsInOrder S = flatMap (λ q. map (λ a. setOf (S .n) (S .edge q a)) (range 0 (S .m))) (range 0 (S .n))
+
+-- The prepared form of S with the look-ahead k: n, m, k, the set of initial states, then the sets.
+abbrev pub tableOf : Semiautomaton → ℕ → List ℕ
+tableOf S k = S .n ∷ S .m ∷ k ∷ setOf (S .n) (S .initial) ∷ setsInOrder S
+
+-- That form at the front of a buffer that keeps its rest: what preparing leaves.
+abbrev pub laidOut : Semiautomaton → ℕ → List ℕ → List ℕ
+laidOut S k old = tableOf S k ++ drop (length (tableOf S k)) old
+
+-- S has the sizes of a plan, and k is no more than a look-ahead can be.
+pub record Preparable (S : Semiautomaton) (k : ℕ) : Type 0 where
+  pub some-state : 1 ≤ S .n
+  pub states : S .n ≤ maxStates
+  pub some-letter : 1 ≤ S .m
+  pub letters : S .m ≤ maxLetters
+  pub lookahead : k ≤ mostAhead (S .n)
+  pub within : Within S

@@ -1,10 +1,35 @@
-// The prepared plan (document 01) as a table of 64-bit numbers: `is_unfit` is refusal 8, `write` lays a table out.
+// The prepared plan (document 01) as a table of 64-bit numbers. `head_of` is the one door to a table: it tests refusal 8 and reads the
+// front; the sets behind it are lent on as `&table[SETS_FROM..]`. `write` lays a table out.
 ghost use mathlib.Core.Path.{_≡_};
-ghost use Prim.Native.Nat.{ℕ, _+_, _*_, _≤_};
+ghost use Prim.Native.Nat.{ℕ, _+_, _*_, _^_, _≤_, _<_};
 ghost use lib.ListN.{length, getD};
 ghost use Rattle.bitset.specs.Sets.{any};
 ghost use Rattle.bitset.specs.Numbers.{has};
-ghost use Rattle.table.specs.Table.{setsFrom, unfit, form};
+ghost use Rattle.semiautomata.specs.Successors.{successors, Fit};
+ghost use Rattle.table.specs.Table.{setsFrom, unfit, headOf, laidOut};
+
+// The greatest sizes: states, letters, sets of a table, look-ahead, numbers of a table.
+pub const MAX_STATES: usize = 64;
+
+pub const MAX_LETTERS: usize = 32;
+
+pub const MAX_SETS: usize = MAX_STATES * MAX_LETTERS;
+
+pub const MAX_LOOKAHEAD: usize = MAX_STATES * (MAX_STATES - 1) / 2;
+
+pub const MAX_TABLE: usize = SETS_FROM + MAX_SETS;
+
+// Where the sets begin; n, m, k and the initial states stand before them.
+pub const SETS_FROM: usize = 4;
+
+// What stands at the front of a fit table; zeros of an unfit one.
+pub struct Head {
+    pub fit: bool,
+    pub n: usize,
+    pub m: usize,
+    pub k: usize,
+    pub starts: u64,
+}
 
 // All numbers of a slice joined.
 fn union_of(sets: &[u64]) -> u64
@@ -18,18 +43,18 @@ fn union_of(sets: &[u64]) -> u64
 }
 
 // Refusal 8, of any numbers. The initial states stand just before the sets, and one test serves all of them.
-pub fn is_unfit(table: &[u64]) -> bool
+fn is_unfit(table: &[u64]) -> bool
     ensures { λ r. ⌜ r ≡ unfit (now (table .entry)) ⌝ }
 {
-    if table.len() < 4 {
+    if table.len() < SETS_FROM {
         return true;
     }
     let n = table[0];
     let m = table[1];
-    if (n < 1) | (64 < n) | (m < 1) | (32 < m) {
+    if (n < 1) | (n > MAX_STATES as u64) | (m < 1) | (m > MAX_LETTERS as u64) {
         return true;
     }
-    let end = 4 + n as usize * m as usize;
+    let end = SETS_FROM + n as usize * m as usize;
     if table.len() < end {
         return true;
     }
@@ -38,13 +63,34 @@ pub fn is_unfit(table: &[u64]) -> bool
     (n * (n - 1) / 2 < table[2]) | (all & mask != all)
 }
 
+pub fn head_of(table: &[u64]) -> Head
+    ensures { λ r. ⌜ r ≡ headOf (now (table .entry)) ⌝ }
+{
+    if is_unfit(table) {
+        return Head {
+            fit: false,
+            n: 0,
+            m: 0,
+            k: 0,
+            starts: 0,
+        };
+    }
+    Head {
+        fit: true,
+        n: table[0] as usize,
+        m: table[1] as usize,
+        k: table[2] as usize,
+        starts: table[3],
+    }
+}
+
 // The form for n states, m letters, look-ahead k, initial states and successor sets, into a table that keeps its rest.
 pub fn write(table: &mut [u64], n: usize, m: usize, k: u64, starts: u64, sets: &[u64])
-    requires { ⌜ (n ≤ 64) × (m ≤ 32) × (n * m ≤ length (now sets)) × (setsFrom + n * m ≤ length (now table)) ⌝ }
-    ensures { λ r. ⌜ now (table .exit) ≡ form n m k starts (now (sets .entry)) (now (table .entry)) ⌝ }
+    requires { ⌜ Fit n m (now sets) × (starts < 2 ^ n) × (setsFrom + n * m ≤ length (now table)) ⌝ }
+    ensures { λ r. ⌜ now (table .exit) ≡ laidOut (successors n m starts (now (sets .entry))) k (now (table .entry)) ⌝ }
 {
     for i in 0..n * m {
-        table[4 + i] = sets[i];
+        table[SETS_FROM + i] = sets[i];
     }
     table[0] = n as u64;
     table[1] = m as u64;

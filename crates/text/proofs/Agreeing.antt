@@ -22,11 +22,10 @@ use Rattle.streaming.proofs.Calls.{Agree}
 use Rattle.streaming.proofs.Streaming.{Follows, feed-agrees, follows-sound, record-follows, opened-agrees, opened-some, opened-none}
 use Rattle.streaming.proofs.Demand3.{finish-whole}
 use Rattle.table.specs.Table.{lookaheadOf, tableMeaning, unfit}
-use Rattle.table.proofs.Fitness.{fitting}
+use Rattle.table.proofs.Fitness.{fitting, lookahead-le}
 use Rattle.records.specs.Bytes.{heldFrom, decode}
 use Rattle.predictor.specs.Calls.{written, openedOn, fedOn, ended}
-use Rattle.predictor.specs.Parts.{isRefusal}
-use Rattle.predictor.proofs.Tables.{lookahead-le}
+use Rattle.predictor.specs.Replies.{isRefusal}
 use Rattle.predictor.proofs.Ending.{end-0}
 use Rattle.predictor.proofs.Following.{Holds, Small, encode-holds, written-holds, feed-keeps, opened-is, fed-is, follows-small}
 use Rattle.lines.specs.Lines.{Appended}

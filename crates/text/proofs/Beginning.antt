@@ -13,10 +13,11 @@ use borrow.Author.Tests.{le-ltb, ltb-false}
 use Rattle.semiautomata.specs.Semiautomaton.{Semiautomaton}
 use Rattle.semiautomata.specs.Predictability.{Lookahead, Unpredictable}
 use Rattle.plan.specs.declared.Reading.the-variants.{Counts, Refused}
-use Rattle.plan.specs.Bytes.{headerOf, meaning, refusal, PlanCounts, outcomeOfReading, reading, WellFormed}
-use Rattle.plan.proofs.Refusals.{well-formed-range}
+use Rattle.plan.specs.Bytes.{headerOf, meaning, asked, refusal, PlanCounts, outcomeOfReading, reading, WellFormed}
+use Rattle.plan.proofs.Refusals.{well-formed-range, asked-proper}
 use Rattle.table.specs.Table.{lookaheadOf, tableMeaning}
-use Rattle.prepare.specs.Preparing.{prepareRefusal, Tabled}
+use Rattle.table.proofs.Form.{Reads}
+use Rattle.prepare.specs.Preparing.{prepareRefusal}
 use Rattle.plan.proofs.Readings.{reading-refused, reading-well}
 use Rattle.prepare.proofs.Refusals.{square, prepare-clear}
 use Rattle.text.specs.declared.Printed.{Printed}
@@ -57,17 +58,17 @@ three-long a b c d e f h =
 -- LINE 2
 
 -- the buffers are long enough for every plan
-pub prepare-taken : (plan : List ℕ) → WellFormed plan → (table letters : ℕ) → tableSize ≤ table → 4096 ≤ letters → prepareRefusal plan table letters ≡ 0
+pub prepare-taken : (plan : List ℕ) → WellFormed plan → (table letters : ℕ) → tableSize ≤ table → 4096 ≤ letters → prepareRefusal (asked plan) table letters ≡ 0
 prepare-taken plan w table letters a b =
     let r = well-formed-range plan w in
     let cells : headerOf plan .n * headerOf plan .m ≤ 2048 = le-trans (mul-le-mul-right (headerOf plan .m) (r .n-high)) (mul-le-mul-left 64 (r .m-high)) in
-    prepare-clear plan w {n = headerOf plan .n} refl {m = headerOf plan .m} refl (omega arith) {letters = letters} (omega (arith, square (r .n-high)))
+    prepare-clear (asked plan) (asked-proper plan) w letters (omega arith) (omega (arith, square (r .n-high)))
 
 module _ {S : Semiautomaton} {old : List ℕ} {at : ℕ} where
-  pub counted : {k : ℕ} {old′ table : List ℕ} → Lookahead S k → Tabled S k old′ table → {r : ℕ} {mid : List ℕ} → Appended old at (lookaheadLine k) r mid
+  pub counted : {k : ℕ} {table : List ℕ} → Lookahead S k → Reads S k table → {r : ℕ} {mid : List ℕ} → Appended old at (lookaheadLine k) r mid
       → (printed : Printed) (out left : List ℕ) → Lays (AfterLookahead (tableMeaning table) (lookaheadOf table)) mid r printed out table left
       → Lays (AfterCounts S) old at printed out table left
-  counted {k} {old′} {table} L t p printed out left =
+  counted {k} {table} L t p printed out left =
       lays-on (AfterLookahead (tableMeaning table) (lookaheadOf table)) (AfterCounts S) p (λ letters text a. predicts k L {text = text} (rw (t .means, t .k-is) at a)) printed out table left
 
   pub never-counted : Unpredictable S → {r : ℕ} {out : List ℕ} → Appended old at (refusedLine 15) r out → Laid (AfterCounts S) old at r out (λ letters. [])

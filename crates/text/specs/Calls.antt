@@ -10,10 +10,10 @@ use lib.ListN.{length}
 use Rattle.semiautomata.specs.Semiautomaton.{Semiautomaton}
 use Rattle.semiautomata.specs.Predictability.{Lookahead, Unpredictable}
 use Rattle.plan.specs.Bytes.{meaning, WellFormed}
-use Rattle.prepare.specs.Preparing.{Tabled}
+use Rattle.table.specs.Table.{laidOut}
 use Rattle.records.specs.Bytes.{decode}
 use Rattle.predictor.specs.Calls.{openedOn, fedOn, endRefusal, ended}
-use Rattle.predictor.specs.Parts.{isRefusal}
+use Rattle.predictor.specs.Replies.{isRefusal}
 use Rattle.text.specs.declared.Printed.{Printed}
 use Rattle.text.specs.declared.Printed.the-variants.{Going, Ended, Short}
 use Rattle.lines.specs.Lines.{refusedLine, Appended}
@@ -107,7 +107,7 @@ over Short = true
 -- leaves; it is over where opening is refused.
 pub data Leaves (S : Semiautomaton) (table bytes : List ℕ) (isOver : Bool) (table′ left : List ℕ) : Type 0 where
   unpredictable : Unpredictable S → isOver ≡ true → table′ ≡ table → left ≡ bytes → Leaves S table bytes isOver table′ left
-  opens : (k : ℕ) → Lookahead S k → Tabled S k table table′ → left ≡ openedOn table′ bytes .state → isRefusal (openedOn table′ bytes .reply) ≡ isOver
+  opens : (k : ℕ) → Lookahead S k → table′ ≡ laidOut S k table → left ≡ openedOn table′ bytes .state → isRefusal (openedOn table′ bytes .reply) ≡ isOver
       → Leaves S table bytes isOver table′ left
 
 -- What an input leaves in them: as they were where 1 to 7 apply.

@@ -10,7 +10,7 @@ ghost use Rattle.table.specs.Table.{lookaheadOf, tableMeaning, unfit};
 ghost use Rattle.records.specs.Bytes.{numberAt};
 ghost use Rattle.predictor.specs.Replies.{said};
 ghost use Rattle.predictor.specs.Calls.{openedOn};
-ghost use Rattle.predictor.specs.Parts.{isRefusal};
+ghost use Rattle.predictor.specs.Replies.{isRefusal};
 ghost use Rattle.lines.specs.Lines.{Appended};
 ghost use Rattle.text.specs.Report.{totalOf, noPlan, replyText, openLines, AfterLookahead, AfterCounts};
 ghost use Rattle.text.specs.Calls.{mostSets, tableSize, recordSize, letterWidth, openWidth, over, printedOf};

@@ -5,7 +5,7 @@ use native.Mathlib.Omega.{arith}
 use denote.Ref.{now}
 use Rattle.semiautomata.specs.Successors.{place}
 use Rattle.semiautomata.proofs.Successors.{place-lt}
-use Rattle.plan.proofs.Loading.{room}
+use Rattle.plan.proofs.Entering.{room}
 use Rattle.claim.proofs.Claims.{on-plan, named-initial, named-none, named-fork}
 use Rattle.claim.proofs.set_named.Statement.{statement}
 use Rattle.claim.proofs.set_named.Tie as tie

@@ -1,6 +1,7 @@
 -- `gawherino_check` meets its contract.
 -- Assumes nothing.
 use Rattle.gawherino.proofs.Evidence.{passes-check}
+use Rattle.plan.specs.Bytes.{asked}
 use borrow.Author.Needs.{needs}
 use Rattle.gawherino.proofs.gawherino_check.Statement.{statement}
 use Rattle.gawherino.proofs.gawherino_check.Tie as tie
@@ -27,13 +28,13 @@ add-result : tie.Need-add-result
 add-result c = search needs
 
 returns : tie.Need-returns
-returns c = let a = c .before .before .before .before .before .before .before .args in passes-check (a .plan .now) (a .claim .now) (a .letters .now) (c .before .before .before .claim-of .ensures) (c .before .before .check .result) (c .before .before .check .ensures) (rw (c .enum-told .given .1))
+returns c = let a = c .before .before .before .before .before .before .before .args in passes-check (asked (a .plan .now)) (a .claim .now) (a .letters .now) (c .before .before .before .claim-of .ensures) (c .before .before .check .result) (c .before .before .check .ensures) (rw (c .enum-told .given .1))
 
 returns-2 : tie.Need-returns-2
-returns-2 c = let a = c .before .before .before .before .before .before .before .args in passes-check (a .plan .now) (a .claim .now) (a .letters .now) (c .before .before .before .claim-of .ensures) (c .before .before .check .result) (c .before .before .check .ensures) (rw (c .enum-told2 .given .1))
+returns-2 c = let a = c .before .before .before .before .before .before .before .args in passes-check (asked (a .plan .now)) (a .claim .now) (a .letters .now) (c .before .before .before .claim-of .ensures) (c .before .before .check .result) (c .before .before .check .ensures) (rw (c .enum-told2 .given .1))
 
 returns-3 : tie.Need-returns-3
-returns-3 c = let a = c .before .before .before .before .before .before .before .before .args in passes-check (a .plan .now) (a .claim .now) (a .letters .now) (c .before .before .before .before .claim-of .ensures) (c .before .before .before .check .result) (c .before .before .before .check .ensures) (rw (c .before .checked .given .1))
+returns-3 c = let a = c .before .before .before .before .before .before .before .before .args in passes-check (asked (a .plan .now)) (a .claim .now) (a .letters .now) (c .before .before .before .before .claim-of .ensures) (c .before .before .before .check .result) (c .before .before .before .check .ensures) (rw (c .before .checked .given .1))
 
 pub gawherino-check-spec : {M : Type 1} → statement M
 gawherino-check-spec =

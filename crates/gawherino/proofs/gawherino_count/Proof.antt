@@ -4,9 +4,11 @@ use mathlib.Core.Path.{refl}
 use mathlib.Core.Logic.{inl, inr}
 use native.Mathlib.Omega.{arith}
 use denote.Ref.{now}
+use Rattle.plan.specs.Bytes.{asked}
+use Rattle.plan.proofs.Refusals.{asked-proper}
 use Rattle.prepare.proofs.Promises.{shown-never, count-refused-so, count-never-so}
 use Rattle.refusals.specs.Outcomes.{refused, answered}
-use Rattle.prepare.proofs.Refusals.{count-passes, count-refuses}
+use Rattle.prepare.proofs.Refusals.{clear-passes, count-refuses}
 use Rattle.prepare.proofs.Answers.{small}
 use borrow.Author.Needs.{needs}
 use Rattle.gawherino.proofs.gawherino_count.Statement.{statement}
@@ -23,8 +25,10 @@ enum-known-counted c = search needs
 
 cast-result : tie.Need-cast-result
 cast-result c =
-    let ((p, a), _) = rw (c .before .counted .given .1) at (c .before .before .before .before .count .ensures) in
-    omega (arith, small (now (c .before .before .before .before .before .before .before .args .plan)) (count-passes (now (c .before .before .before .before .before .before .before .args .plan)) 4096 p) _ a)
+    let n = c .before .before .before .before in
+    let p = now (n .before .before .before .args .plan) in
+    let ((q, a), _) = rw (c .before .counted .given .1) at (n .count .ensures) in
+    omega (arith, small (asked-proper p .sized (clear-passes (asked p) (asked-proper p) _ q)) _ a)
 
 enum-known-counted-2 : tie.Need-enum-known-counted-2
 enum-known-counted-2 c = search needs
@@ -43,25 +47,24 @@ add-result-2 c = search needs
 
 returns : tie.Need-returns
 returns c =
-    let ((p, a), _) = rw (c .before .counted .given .1) at (c .before .before .before .before .count .ensures) in
-    record {
-      outcome = answered _;
-      looks-ahead = (count-passes (now (c .before .before .before .before .before .before .before .args .plan)) 4096 p, a);
-      is = refl;
-    }
+    let n = c .before .before .before .before in
+    let p = now (n .before .before .before .args .plan) in
+    let ((q, a), _) = rw (c .before .counted .given .1) at (n .count .ensures) in
+    record { outcome = answered _; looks-ahead = (clear-passes (asked p) (asked-proper p) _ q, a); is = refl }
 
 returns-2 : tie.Need-returns-2
 returns-2 c =
-    let p = now (c .before .before .before .before .before .before .before .args .plan) in
-    let (a, n, _) = count-refused-so p (rw (c .before .counted2 .given .1) at (c .before .before .before .before .count .ensures)) in
-    let (e, ill) = count-refuses p a n in
-    record { outcome = refused _; looks-ahead = inl (e, n); is = refl }
+    let n = c .before .before .before .before in
+    let p = now (n .before .before .before .args .plan) in
+    let (a, z, _) = count-refused-so (asked p) (asked-proper p) (rw (c .before .counted2 .given .1) at (n .count .ensures)) in
+    record { outcome = refused _; looks-ahead = inl (count-refuses (asked p) (asked-proper p) a z .0, z); is = refl }
 
 returns-3 : tie.Need-returns-3
 returns-3 c =
-    let plan = now (c .before .before .before .before .before .before .args .plan) in
-    let (p, s) = count-never-so plan (rw (c .enum-told .given .1) at (c .before .before .before .count .ensures)) in
-    record { outcome = refused 15; looks-ahead = inr (count-passes plan 4096 p, refl, shown-never s); is = refl }
+    let n = c .before .before .before in
+    let p = now (n .before .before .before .args .plan) in
+    let (q, s) = count-never-so (asked p) (asked-proper p) (rw (c .enum-told .given .1) at (n .count .ensures)) in
+    record { outcome = refused 15; looks-ahead = inr (clear-passes (asked p) (asked-proper p) _ q, refl, shown-never s); is = refl }
 
 pub gawherino-count-spec : {M : Type 1} → statement M
 gawherino-count-spec =

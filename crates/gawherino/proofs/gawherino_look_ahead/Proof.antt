@@ -4,6 +4,8 @@ use mathlib.Core.Path.{refl}
 use native.Mathlib.Omega.{arith}
 use Rattle.gawherino.specs.Numbers.{answers, refuses}
 use Rattle.gawherino.proofs.Evidence.{counts-fit}
+use Rattle.plan.specs.Bytes.{asked}
+use Rattle.plan.proofs.Refusals.{asked-proper}
 use borrow.Author.Needs.{needs}
 use Rattle.gawherino.proofs.gawherino_look_ahead.Statement.{statement}
 use Rattle.gawherino.proofs.gawherino_look_ahead.Tie as tie
@@ -18,7 +20,7 @@ count-requires : tie.Need-count-requires
 count-requires c κs = search needs
 
 pass-prepared-requires : tie.Need-pass-prepared-requires
-pass-prepared-requires c κs = (counts-fit (c .before .before .before .before .before .before .before .before .before .args .plan .now) (c .before .before .before .count .result) (c .before .before .before .before .before .before .before .before .before .args .letters .now) _ (c .before .before .before .count .ensures), omega arith)
+pass-prepared-requires c κs = (counts-fit (asked (c .before .before .before .before .before .before .before .before .before .args .plan .now)) (asked-proper (c .before .before .before .before .before .before .before .before .before .args .plan .now)) (c .before .before .before .count .result) (c .before .before .before .before .before .before .before .before .before .args .letters .now) _ (c .before .before .before .count .ensures), omega arith)
 
 same-length : tie.Need-same-length
 same-length c = search needs

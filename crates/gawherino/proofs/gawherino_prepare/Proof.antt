@@ -4,6 +4,8 @@ use mathlib.Core.Path.{refl}
 use native.Mathlib.Omega.{arith}
 use Rattle.gawherino.specs.Numbers.{answers, refuses}
 use Rattle.gawherino.proofs.Evidence.{prepares-fit}
+use Rattle.plan.specs.Bytes.{asked}
+use Rattle.plan.proofs.Refusals.{asked-proper}
 use borrow.Author.Needs.{needs}
 use Rattle.gawherino.proofs.gawherino_prepare.Statement.{statement}
 use Rattle.gawherino.proofs.gawherino_prepare.Tie as tie
@@ -18,7 +20,7 @@ prepare-requires : tie.Need-prepare-requires
 prepare-requires c κs = search needs
 
 pass-prepared-requires : tie.Need-pass-prepared-requires
-pass-prepared-requires c κs = (prepares-fit (c .before .before .before .before .before .before .before .before .before .before .before .before .before .args .plan .now) (c .before .before .before .before .before .prepare .result) (c .before .before .before .before .before .before .before .before .before .before .before .before .before .args .table .now) _ (c .before .before .before .before .before .before .before .before .before .before .before .before .before .args .letters .now) _ (c .before .before .before .before .before .prepare .ensures), omega arith)
+pass-prepared-requires c κs = (prepares-fit (asked (c .before .before .before .before .before .before .before .before .before .before .before .before .before .args .plan .now)) (asked-proper (c .before .before .before .before .before .before .before .before .before .before .before .before .before .args .plan .now)) (c .before .before .before .before .before .prepare .result) (c .before .before .before .before .before .before .before .before .before .before .before .before .before .args .table .now) _ (c .before .before .before .before .before .before .before .before .before .before .before .before .before .args .letters .now) _ (c .before .before .before .before .before .prepare .ensures), omega arith)
 
 same-length : tie.Need-same-length
 same-length c = search needs

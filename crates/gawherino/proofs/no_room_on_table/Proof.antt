@@ -1,12 +1,14 @@
 -- `no_room_on_table` meets its contract.
 -- Assumes nothing.
-use mathlib.Core.Path.{sym, _∙_}
+use mathlib.Core.Bool.{not}
+use mathlib.Core.Path.{sym, _∙_, ap}
 use borrow.Author.Needs.{needs}
+use Rattle.table.proofs.Heads.{head-unfit}
 use Rattle.gawherino.proofs.no_room_on_table.Statement.{statement}
 use Rattle.gawherino.proofs.no_room_on_table.Tie as tie
 
-is-unfit-requires : tie.Need-is-unfit-requires
-is-unfit-requires c κs = search needs
+head-of-requires : tie.Need-head-of-requires
+head-of-requires c κs = search needs
 
 add-result : tie.Need-add-result
 add-result c = search needs
@@ -15,11 +17,11 @@ add-result-2 : tie.Need-add-result-2
 add-result-2 c = search needs
 
 returns : tie.Need-returns
-returns c = rw (sym (c .before .is-unfit .ensures) ∙ c .if1 .taken)
+returns c = rw (sym (head-unfit _ (c .before .head-of .ensures)) ∙ ap not (c .if1 .taken))
 
 returns-2 : tie.Need-returns-2
-returns-2 c = rw (sym (c .before .is-unfit .ensures) ∙ c .if1 .left)
+returns-2 c = rw (sym (head-unfit _ (c .before .head-of .ensures)) ∙ ap not (c .if1 .left))
 
 pub no-room-on-table-spec : {M : Type 1} → statement M
 no-room-on-table-spec =
-    tie.close (tie.spec is-unfit-requires add-result add-result-2 returns returns-2)
+    tie.close (tie.spec head-of-requires add-result add-result-2 returns returns-2)

@@ -1,26 +1,42 @@
 -- `look_ahead` meets its contract.
 -- Assumes nothing.
 use mathlib.Core.Path.{refl}
-use borrow.Author.Tests.{not-true, not-false}
 use borrow.Author.Needs.{needs}
+use borrow.Author.Tests.{not-true, not-false}
+use Rattle.lookahead.proofs.Rivalry.{parted-lookahead, endless}
 use Rattle.lookahead.proofs.look_ahead.Statement.{statement}
 use Rattle.lookahead.proofs.look_ahead.Tie as tie
 
-settle-requires : tie.Need-settle-requires
-settle-requires c κs = let p = c .before .before .pre in (p .0, p .1)
+-- from the rounds' end back to the rows of rivals, and from these to the start
+abbrev paired : tie.After-settle → tie.After-rivals
+paired c = c .before .before
+
+abbrev start : tie.After-rivals → tie.Start
+start c = c .before .before .before
 
 returns : tie.Need-returns
-returns c = (c .before .before .settle .ensures .0 (not-true _ (c .if1 .taken)), refl)
+returns c =
+    let l = c .before .before in
+    let r = paired l in
+    let p = start r .pre in
+    (parted-lookahead _ _ _ _ (p .0) (p .1) (r .rivals .ensures) (l .settle .ensures .0 (not-true _ (c .if1 .taken))), refl)
 
 evidence-requires : tie.Need-evidence-requires
-evidence-requires c κs = let p = c .before .before .before .before .before .before .before .before .pre in (p .0, p .1, c .before .before .before .before .before .settle .ensures .1 (not-false _ (c .before .before .before .if1 .left)), p .2)
-
-same-length : tie.Need-same-length
-same-length c = search needs
-
-returns-2 : tie.Need-returns-2
-returns-2 c = c .before .before .evidence .ensures
+evidence-requires c κs =
+    let e = c .before .before .before in
+    let l = e .before .before in
+    let r = paired l in
+    let p = start r .pre in
+    let (lasting, two) = l .settle .ensures .1 (not-false _ (e .if1 .left)) in
+    (endless _ _ _ _ (p .0) (p .1) (r .rivals .ensures) lasting two, p)
 
 pub look-ahead-spec : {M : Type 1} → statement M
 look-ahead-spec =
-    tie.close (tie.spec settle-requires returns evidence-requires same-length returns-2)
+    tie.close
+    (tie.spec
+    (λ c κs. c .before .before .pre .0)
+    (λ c κs. start (c .before) .pre .0)
+    returns
+    evidence-requires
+    (λ c. search needs)
+    (λ c. c .before .before .evidence .ensures))

@@ -1,26 +1,44 @@
 -- `plan::enter_lines` meets its contract.
 -- Assumes nothing.
-use Prim.Native.Nat.{_+_, _-_, _*_, _≤_, _<_}
+use Prim.Native.Nat.{ℕ, _+_, _-_, _*_, _≤_, _<_}
+use mathlib.Core.Path.{_≡_}
+use denote.Ref.{now}
 use borrow.Author.Needs.{needs}
 use native.Mathlib.Omega.{arith}
-use lib.ListN.{length}
-use Rattle.plan.specs.Bytes.{parsed}
-use Rattle.plan.proofs.Entering.{LinesEntered, lines-none, lines-next, place-in, lines-all}
+use Rattle.semiautomata.specs.Successors.{place}
+use Rattle.plan.specs.Plan.{Line, Plan}
+use Rattle.plan.specs.Bytes.{parsedBy}
+use Rattle.plan.specs.inner.Steps.{LinesEntered}
+use Rattle.plan.proofs.Entering.{linesTo, lines-none, lines-off, place-in, lines-next}
 use Rattle.plan.proofs.enter_lines.Statement.{statement}
 use Rattle.plan.proofs.enter_lines.Tie as tie
 
 abbrev Inv-loop : tie.InvT-loop
-Inv-loop plan h sets₀ m e twice₀ i₀ sets twice i = (i ≤ e) × LinesEntered (parsed plan) i sets₀ sets twice
+Inv-loop plan h sets₀ n m e off₀ twice₀ i₀ sets off twice i = (i ≤ e) × LinesEntered (linesTo i (parsedBy h plan)) sets (record { off = off; twice = twice })
 
 abbrev μ-loop : tie.MeasureT-loop
-μ-loop plan h sets₀ m e twice₀ i₀ sets twice i = e - i
+μ-loop plan h sets₀ n m e off₀ twice₀ i₀ sets off twice i = e - i
 
--- the line's place is one of the buffer
-in-buffer : (c : tie.After-line-at Inv-loop μ-loop) → c .line-at .result .from * c .before .before .before .before .before .before .before .args .h .m + c .line-at .result .letter < length (c .before .before .loop .sets)
-in-buffer c =
-    let l = c .before .before in
-    let a = l .before .before .before .before .before in
-    place-in (a .pre .0) (l .loop .inv .1) (a .pre .1) (c .before .loop-test .taken) (a .pre .2) (c .line-at .ensures)
+abbrev start : tie.At-loop Inv-loop μ-loop → tie.Start Inv-loop μ-loop
+start c = c .before .before .before .before
+
+abbrev at : tie.At-loop Inv-loop μ-loop → ℕ
+at l = start l .args .h .lines + 3 * l .loop .i
+
+abbrev turn : tie.Else1 Inv-loop μ-loop → tie.At-loop Inv-loop μ-loop
+turn c = c .before .before .before .before .before .before
+
+abbrev planOf : tie.Start Inv-loop μ-loop → Plan
+planOf s = parsedBy (s .args .h) (now (s .args .plan))
+
+abbrev line : tie.Else1 Inv-loop μ-loop → Line
+line c = planOf (start (turn c)) .line (turn c .loop .i)
+
+inside : (c : tie.Else1 Inv-loop μ-loop) → (place (start (turn c) .args .h .m) (line c .from) (line c .letter) < 2048) × (line c .to < 64)
+inside c = let s = start (turn c) in place-in (planOf s) (s .pre .0 .states) (s .pre .0 .letters) (turn c .loop .inv .1) (c .if1 .left)
+
+cast-n : tie.Need-cast-n Inv-loop μ-loop
+cast-n c = search needs
 
 cast-m : tie.Need-cast-m Inv-loop μ-loop
 cast-m c = search needs
@@ -29,43 +47,40 @@ cast-e : tie.Need-cast-e Inv-loop μ-loop
 cast-e c = search needs
 
 loop-holds : tie.Need-loop-holds Inv-loop μ-loop
-loop-holds c = (search needs, lines-none _ _ (c .before .before .before .before .pre .3))
+loop-holds c = (search needs, lines-none (planOf (c .before .before .before)) (c .before .before .before .pre .1))
 
-line-at-requires : tie.Need-line-at-requires Inv-loop μ-loop
-line-at-requires c κs = search needs
+cast-at : tie.Need-cast-at Inv-loop μ-loop
+cast-at c = search needs
 
-cast-place : tie.Need-cast-place Inv-loop μ-loop
-cast-place c = search needs
+mul-at : tie.Need-mul-at Inv-loop μ-loop
+mul-at c = search needs
 
-mul-place : tie.Need-mul-place Inv-loop μ-loop
-mul-place c = omega (arith, in-buffer (c .before))
+add-at : tie.Need-add-at Inv-loop μ-loop
+add-at c = search needs
 
-cast-place-2 : tie.Need-cast-place-2 Inv-loop μ-loop
-cast-place-2 c = search needs
+shared-slice-read-from : tie.Need-shared-slice-read-from Inv-loop μ-loop
+shared-slice-read-from c = search needs
 
-add-place : tie.Need-add-place Inv-loop μ-loop
-add-place c = omega (arith, in-buffer (c .before .before))
+cast-from : tie.Need-cast-from Inv-loop μ-loop
+cast-from c = let l = c .before .before .before in omega (arith, c .shared-slice-known .given (at l))
+
+add-letter : tie.Need-add-letter Inv-loop μ-loop
+add-letter c = search needs
+
+shared-slice-read-letter : tie.Need-shared-slice-read-letter Inv-loop μ-loop
+shared-slice-read-letter c = search needs
+
+cast-letter : tie.Need-cast-letter Inv-loop μ-loop
+cast-letter c = let l = c .before .before .before .before in omega (arith, c .shared-slice-known2 .given (at l + 1))
+
+add-to : tie.Need-add-to Inv-loop μ-loop
+add-to c = search needs
+
+shared-slice-read-to : tie.Need-shared-slice-read-to Inv-loop μ-loop
+shared-slice-read-to c = search needs
 
 cast-to : tie.Need-cast-to Inv-loop μ-loop
-cast-to c = search needs
-
-mul-set : tie.Need-mul-set Inv-loop μ-loop
-mul-set c = omega (arith, in-buffer (c .before .before .before))
-
-slice-read-set : tie.Need-slice-read-set Inv-loop μ-loop
-slice-read-set c = omega (arith, in-buffer (c .before .before .before .before))
-
-contains-requires : tie.Need-contains-requires Inv-loop μ-loop
-contains-requires c κs = search needs
-
-singleton-requires : tie.Need-singleton-requires Inv-loop μ-loop
-singleton-requires c κs = search needs
-
-mul-sets : tie.Need-mul-sets Inv-loop μ-loop
-mul-sets c = omega (arith, in-buffer (c .before .before .before .before .before .before))
-
-slice-write-sets : tie.Need-slice-write-sets Inv-loop μ-loop
-slice-write-sets c = omega (arith, in-buffer (c .before .before .before .before .before .before))
+cast-to c = let l = c .before .before .before .before .before in omega (arith, c .shared-slice-known3 .given (at l + 2))
 
 add-i : tie.Need-add-i Inv-loop μ-loop
 add-i c = search needs
@@ -75,16 +90,48 @@ loop-less c = search needs
 
 loop-again : tie.Need-loop-again Inv-loop μ-loop
 loop-again c =
-    let b = c .before .before .before .before .before .before in
-    let l = b .before .before in
-    let a = l .before .before .before .before .before in
-    (search needs, lines-next (a .pre .0) (l .loop .inv .1) (a .pre .1) (b .before .loop-test .taken) (a .pre .2) (b .line-at .ensures) (c .singleton .ensures) (c .before .contains .ensures))
+    let l = c .before .before .before .before .before .before in
+    let a = start l in
+    (search needs, lines-off (planOf a) (a .pre .0 .states) (a .pre .0 .letters) (l .loop .inv .1) (c .if1 .taken))
 
-same-length : tie.Need-same-length Inv-loop μ-loop
-same-length c = c .before .loop .inv .1 .size
+mul-place : tie.Need-mul-place Inv-loop μ-loop
+mul-place c = omega (arith, inside c)
+
+add-place : tie.Need-add-place Inv-loop μ-loop
+add-place c = omega (arith, inside c)
+
+mul-set : tie.Need-mul-set Inv-loop μ-loop
+mul-set c = omega (arith, inside c)
+
+element-copy-out-set : tie.Need-element-copy-out-set Inv-loop μ-loop
+element-copy-out-set c = omega (arith, inside c)
+
+shr-twice : tie.Need-shr-twice Inv-loop μ-loop
+shr-twice c = omega (arith, inside (c .before))
+
+shl-sets : tie.Need-shl-sets Inv-loop μ-loop
+shl-sets c = omega (arith, inside (c .before))
+
+mul-sets : tie.Need-mul-sets Inv-loop μ-loop
+mul-sets c = omega (arith, inside (c .before))
+
+element-write-sets : tie.Need-element-write-sets Inv-loop μ-loop
+element-write-sets c = omega (arith, inside (c .before))
+
+add-i-2 : tie.Need-add-i-2 Inv-loop μ-loop
+add-i-2 c = search needs
+
+loop-less-2 : tie.Need-loop-less-2 Inv-loop μ-loop
+loop-less-2 c = search needs
+
+loop-again-2 : tie.Need-loop-again-2 Inv-loop μ-loop
+loop-again-2 c =
+    let l = turn (c .before) in
+    let a = start l in
+    (search needs, lines-next (planOf a) (a .pre .0 .states) (a .pre .0 .letters) (l .loop .inv .1) (c .before .if1 .left))
 
 returns : tie.Need-returns Inv-loop μ-loop
-returns c = lines-all (c .before .before .before .before .before .before .pre .0) (c .before .loop .inv .1) (omega arith)
+returns c = let e : c .before .loop .i ≡ start (c .before) .args .h .e = omega arith in rw e at (c .before .loop .inv .1)
 
 pub enter-lines-spec : {M : Type 1} → statement M
 enter-lines-spec =
@@ -92,23 +139,33 @@ enter-lines-spec =
     (tie.spec
     Inv-loop
     μ-loop
+    cast-n
     cast-m
     cast-e
     loop-holds
-    line-at-requires
-    cast-place
-    mul-place
-    cast-place-2
-    add-place
+    cast-at
+    mul-at
+    add-at
+    shared-slice-read-from
+    cast-from
+    add-letter
+    shared-slice-read-letter
+    cast-letter
+    add-to
+    shared-slice-read-to
     cast-to
-    mul-set
-    slice-read-set
-    contains-requires
-    singleton-requires
-    mul-sets
-    slice-write-sets
     add-i
     loop-less
     loop-again
-    same-length
+    mul-place
+    add-place
+    mul-set
+    element-copy-out-set
+    shr-twice
+    shl-sets
+    mul-sets
+    element-write-sets
+    add-i-2
+    loop-less-2
+    loop-again-2
     returns)

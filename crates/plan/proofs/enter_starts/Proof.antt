@@ -1,25 +1,31 @@
 -- `plan::enter_starts` meets its contract.
 -- Assumes nothing.
 use Prim.Native.Nat.{_+_, _-_, _≤_}
+use mathlib.Core.Path.{_≡_, refl}
+use denote.Ref.{now}
 use borrow.Author.Needs.{needs}
 use native.Mathlib.Omega.{arith}
-use denote.Ref.{now}
-use lib.ListN.{getD}
-use Rattle.plan.proofs.Entering.{StartsEntered, starts-none, starts-next, starts-all}
+use Rattle.plan.specs.Plan.{Plan}
+use Rattle.plan.specs.Bytes.{parsedBy}
+use Rattle.plan.specs.inner.Steps.{StartsEntered}
+use Rattle.plan.proofs.Entering.{startsTo, starts-none, starts-next}
 use Rattle.plan.proofs.enter_starts.Statement.{statement}
 use Rattle.plan.proofs.enter_starts.Tie as tie
 
 abbrev Inv-loop : tie.InvT-loop
-Inv-loop plan n at p all set₀ off₀ i₀ set off i = (i ≤ p) × StartsEntered n (λ j. getD plan (at + j) 0) i set off
+Inv-loop plan h n p all set₀ off₀ i₀ set off i = (i ≤ p) × StartsEntered (startsTo i (parsedBy h plan)) (record { set = set; off = off })
 
 abbrev μ-loop : tie.MeasureT-loop
-μ-loop plan n at p all set₀ off₀ i₀ set off i = p - i
+μ-loop plan h n p all set₀ off₀ i₀ set off i = p - i
+
+abbrev start : tie.At-loop Inv-loop μ-loop → tie.Start Inv-loop μ-loop
+start c = c .before .before .before .before .before
+
+abbrev planOf : tie.Start Inv-loop μ-loop → Plan
+planOf s = parsedBy (s .args .h) (now (s .args .plan))
 
 cast-n : tie.Need-cast-n Inv-loop μ-loop
 cast-n c = search needs
-
-cast-at : tie.Need-cast-at Inv-loop μ-loop
-cast-at c = search needs
 
 cast-p : tie.Need-cast-p Inv-loop μ-loop
 cast-p c = search needs
@@ -28,19 +34,19 @@ mask-requires : tie.Need-mask-requires Inv-loop μ-loop
 mask-requires c κs = search needs
 
 loop-holds : tie.Need-loop-holds Inv-loop μ-loop
-loop-holds c = (search needs, starts-none _ _)
-
-add-wide : tie.Need-add-wide Inv-loop μ-loop
-add-wide c = search needs
-
-shared-slice-read-wide : tie.Need-shared-slice-read-wide Inv-loop μ-loop
-shared-slice-read-wide c = search needs
-
-wide-requires : tie.Need-wide-requires Inv-loop μ-loop
-wide-requires c κs = search needs
+loop-holds c = (search needs, starts-none (planOf (c .before .before .before .before)))
 
 cast-s : tie.Need-cast-s Inv-loop μ-loop
 cast-s c = search needs
+
+add-s : tie.Need-add-s Inv-loop μ-loop
+add-s c = search needs
+
+shared-slice-read-s : tie.Need-shared-slice-read-s Inv-loop μ-loop
+shared-slice-read-s c = search needs
+
+cast-s-2 : tie.Need-cast-s-2 Inv-loop μ-loop
+cast-s-2 c = let l = c .before .before .before in omega (arith, c .shared-slice-known2 .given (start l .args .h .starts + l .loop .i))
 
 contains-requires : tie.Need-contains-requires Inv-loop μ-loop
 contains-requires c κs = search needs
@@ -57,11 +63,11 @@ loop-less c = search needs
 loop-again : tie.Need-loop-again Inv-loop μ-loop
 loop-again c =
     let l = c .before .before .before .before .before in
-    let a = l .before .before .before .before .before .before in
-    (search needs, starts-next _ (λ j. getD (now (a .args .plan)) (a .args .h .starts + j) 0) (a .pre .states) (l .loop .inv .1) (c .before .before .wide .ensures .0) (c .singleton .ensures) (l .before .mask .ensures) (c .before .contains .ensures))
+    let a = start l in
+    (search needs, starts-next (planOf a) (a .pre .states) (l .loop .inv .1) refl (c .singleton .ensures) (l .before .mask .ensures) (c .before .contains .ensures))
 
 returns : tie.Need-returns Inv-loop μ-loop
-returns c = starts-all (c .before .before .before .before .before .before .before .pre) (omega arith) (c .before .loop .inv .1)
+returns c = let e : c .before .loop .i ≡ start (c .before) .args .h .p = omega arith in rw e at (c .before .loop .inv .1)
 
 pub enter-starts-spec : {M : Type 1} → statement M
 enter-starts-spec =
@@ -70,14 +76,13 @@ enter-starts-spec =
     Inv-loop
     μ-loop
     cast-n
-    cast-at
     cast-p
     mask-requires
     loop-holds
-    add-wide
-    shared-slice-read-wide
-    wide-requires
     cast-s
+    add-s
+    shared-slice-read-s
+    cast-s-2
     contains-requires
     singleton-requires
     add-i

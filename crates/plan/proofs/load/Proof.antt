@@ -1,37 +1,66 @@
 -- `plan::load` meets its contract.
 -- Assumes nothing.
-use borrow.Author.Needs.{needs}
+use mathlib.Core.Path.{sym, _∙_}
 use native.Mathlib.Omega.{arith}
 use denote.Ref.{now}
-use Rattle.plan.specs.Loading.{Sound}
-use Rattle.plan.proofs.Refusals.{well-formed, well-formed-sound}
-use Rattle.plan.proofs.Loading.{loaded}
+use borrow.Author.Needs.{needs}
+use Rattle.plan.specs.inner.Steps.{Sound}
+use Rattle.plan.proofs.Refusals.{refused-short, header-clear}
+use Rattle.plan.proofs.Loading.{loads-header, loads-refused, loads-plan}
 use Rattle.plan.proofs.load.Statement.{statement}
 use Rattle.plan.proofs.load.Tie as tie
 
+returns : tie.Need-returns
+returns c = (refused-short _ (c .if1 .taken), λ e. omega arith)
+
 header-of-requires : tie.Need-header-of-requires
-header-of-requires c κs = well-formed _ (c .before .before .pre .0) .header .long
+header-of-requires c κs = search needs
 
-sound : (c : tie.After-header-of) → Sound (now (c .before .before .before .args .plan)) (c .header-of .result)
-sound c = rw (c .header-of .ensures) (well-formed-sound _ (c .before .before .before .pre .0))
+header-refusal-requires : tie.Need-header-refusal-requires
+header-refusal-requires c κs = search needs
 
-enter-lines-requires : tie.Need-enter-lines-requires
-enter-lines-requires c κs =
-    let (w, room, zeros) = c .before .before .before .before .pre in
-    (sound (c .before), well-formed _ w .lines, rw (c .before .header-of .ensures) room, zeros)
+returns-2 : tie.Need-returns-2
+returns-2 c = loads-header _ (c .before .before .header-of .ensures) (c .before .header-refusal .ensures) (c .if2 .taken)
+
+abbrev start : tie.Else2 → tie.Start
+start c = c .before .before .before .before .before
+
+sound : (c : tie.Else2) → Sound (now (start c .args .plan)) (c .before .before .header-of .result)
+sound c = header-clear _ _ (sym (c .before .header-refusal .ensures) ∙ c .if2 .left) .1
 
 enter-starts-requires : tie.Need-enter-starts-requires
-enter-starts-requires c κs = sound (c .before .before .before .before)
+enter-starts-requires c κs = sound c
 
-same-length : tie.Need-same-length
-same-length c = search needs
+enter-lines-requires : tie.Need-enter-lines-requires
+enter-lines-requires c κs = let e = c .before .before in (sound e, start e .pre)
 
-returns : tie.Need-returns
-returns c =
-    let l = c .before .before .before in
-    let h = l .before .before in
-    let (w, room, zeros) = h .before .before .before .pre in
-    loaded _ w _ (h .header-of .ensures) (omega (arith, room, l .enter-lines .kept .1 .1 .0)) (l .enter-lines .ensures .1) (c .enter-starts .ensures .0)
+first-of-parts-requires : tie.Need-first-of-parts-requires
+first-of-parts-requires c κs = search needs
+
+returns-3 : tie.Need-returns-3
+returns-3 c =
+    let l = c .before .before in
+    let e = l .before .before .before in
+    loads-refused _ (e .before .before .header-of .ensures) (e .before .header-refusal .ensures) (e .if2 .left) (l .before .before .enter-starts .ensures)
+    (l .enter-lines .ensures) (c .before .first-of-parts .ensures) (c .if3 .taken)
+
+returns-4 : tie.Need-returns-4
+returns-4 c =
+    let l = c .before .before in
+    let e = l .before .before .before in
+    loads-plan _ (e .before .before .header-of .ensures) (e .before .header-refusal .ensures) (e .if2 .left) (l .before .before .enter-starts .ensures)
+    (l .enter-lines .ensures) (c .before .first-of-parts .ensures) (c .if3 .left)
 
 pub load-spec : {M : Type 1} → statement M
-load-spec = tie.close (tie.spec header-of-requires enter-lines-requires enter-starts-requires same-length returns)
+load-spec =
+    tie.close
+    (tie.spec
+    returns
+    header-of-requires
+    header-refusal-requires
+    returns-2
+    enter-starts-requires
+    enter-lines-requires
+    first-of-parts-requires
+    returns-3
+    returns-4)

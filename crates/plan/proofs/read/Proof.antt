@@ -1,23 +1,25 @@
 -- `plan::read` meets its contract.
 -- Assumes nothing.
-use mathlib.Core.Path.{sym, _∙_}
 use borrow.Author.Needs.{needs}
-use borrow.Author.Tests.{ne-eqb}
-use Rattle.plan.proofs.Refusals.{well-formed}
+use Rattle.plan.proofs.Loading.{blank}
+use Rattle.plan.proofs.Readings.{loaded-refused, loaded-counts}
 use Rattle.plan.proofs.read.Statement.{statement}
 use Rattle.plan.proofs.read.Tie as tie
 
-refusal-of-requires : tie.Need-refusal-of-requires
-refusal-of-requires c κs = search needs
+load-requires : tie.Need-load-requires
+load-requires c κs = blank
+
+enum-known-loaded : tie.Need-enum-known-loaded
+enum-known-loaded c = search needs
+
+enum-known-loaded-2 : tie.Need-enum-known-loaded-2
+enum-known-loaded-2 c = search needs
 
 returns : tie.Need-returns
-returns c = rw (← c .before .refusal-of .ensures, ne-eqb _ _ (c .if1 .taken))
-
-header-of-requires : tie.Need-header-of-requires
-header-of-requires c κs = well-formed _ (sym (c .before .refusal-of .ensures) ∙ c .if1 .left) .header .long
+returns c = loaded-refused _ (rw (c .before .loaded .given .1) at (c .before .before .before .load .ensures))
 
 returns-2 : tie.Need-returns-2
-returns-2 c = rw (c .header-of .ensures, sym (c .before .before .refusal-of .ensures) ∙ c .before .if1 .left)
+returns-2 c = let (w, _, e, _) = rw (c .before .loaded2 .given .1) at (c .before .before .before .load .ensures) in loaded-counts _ w e
 
 pub read-spec : {M : Type 1} → statement M
-read-spec = tie.close (tie.spec refusal-of-requires returns header-of-requires returns-2)
+read-spec = tie.close (tie.spec load-requires enum-known-loaded enum-known-loaded-2 returns returns-2)

@@ -1,7 +1,7 @@
 -- `base_of` meets its contract.
 -- Assumes nothing.
 use borrow.Author.Tests.{lt-ltb, le-ltb}
-use Rattle.predictor.specs.Parts.{baseSet}
+use Rattle.predictor.specs.inner.Parts.{baseSet}
 use borrow.Author.Needs.{needs}
 use Rattle.predictor.proofs.base_of.Statement.{statement}
 use Rattle.predictor.proofs.base_of.Tie as tie

@@ -1,8 +1,8 @@
 -- `decide_open` meets its contract.
 -- Assumes nothing.
 use borrow.Author.Tests.{ne-eqb, lt-ltb, le-ltb}
-use Rattle.predictor.specs.Parts.{opening}
-use borrow.Author.Needs.{needs}
+use Rattle.predictor.specs.inner.Parts.{opening}
+use native.Mathlib.Omega.{arith}
 use Rattle.predictor.proofs.decide_open.Statement.{statement}
 use Rattle.predictor.proofs.decide_open.Tie as tie
 
@@ -15,7 +15,7 @@ unfolding opening
 returns-2 c = rw (ne-eqb _ 0 (c .before .if1 .left), lt-ltb 0 _ (c .if2 .taken))
 
 resolution-requires : tie.Need-resolution-requires
-resolution-requires c κs = search needs
+resolution-requires c κs = omega arith
 
 returns-3 : tie.Need-returns-3
 unfolding opening

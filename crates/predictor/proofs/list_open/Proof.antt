@@ -9,7 +9,7 @@ use Rattle.semiautomata.specs.Semiautomaton.{Semiautomaton}
 use Rattle.semiautomata.specs.Successors.{successors}
 use Rattle.streaming.specs.Streaming.{base}
 use Rattle.records.specs.Bytes.{decode}
-use Rattle.predictor.specs.Parts.{standing}
+use Rattle.predictor.specs.inner.Parts.{standing}
 use Rattle.records.proofs.Bytes.{part-first, part-whole}
 use Rattle.predictor.proofs.Standing.{By, by-sets, from-is, from-lt, Standing, standing-some}
 use Rattle.predictor.proofs.Ending.{open-sets, open-count, base-some, held-whole}

@@ -4,13 +4,15 @@ use Prim.Native.Nat.{_^_, _<_}
 use native.Mathlib.Omega.{arith}
 use borrow.Author.Tests.{ne-eqb}
 use Rattle.bitset.proofs.Members.{ones-size, trailing-least, one-sole}
-use Rattle.predictor.specs.Parts.{resolving}
+use Rattle.streaming.specs.PlainWalk.{limit}
+use Rattle.predictor.specs.inner.Parts.{resolving}
 use borrow.Author.Needs.{needs}
 use Rattle.predictor.proofs.resolution.Statement.{statement}
 use Rattle.predictor.proofs.resolution.Tie as tie
 
 cast-t6 : tie.Need-cast-t6
-cast-t6 c = search needs
+unfolding limit
+cast-t6 c = omega (arith, c .before .pre)
 
 cast-t8 : tie.Need-cast-t8
 cast-t8 c = omega (arith, one-sole 64 _ (search needs) (c .if1 .taken) .below)

@@ -6,7 +6,7 @@ use mathlib.Core.Path.{_≡_, sym, _∙_}
 use native.Mathlib.Omega.{arith}
 use borrow.Author.Tests.{not-true, not-false}
 use Rattle.records.specs.Bytes.{heldCount, decode, tidy}
-use Rattle.records.specs.Taking.{regular}
+use Rattle.records.specs.inner.Taking.{regular}
 use Rattle.records.proofs.Bytes.{tidy-out, part-first}
 use Rattle.predictor.proofs.Standing.{by-sets, keeps-in, from-lt, standing-untidy, standing-against, standing-walked}
 use borrow.Author.Needs.{needs}

@@ -1,53 +1,76 @@
 -- `prepare::count` meets its contract.
 -- Assumes nothing.
-use mathlib.Core.Path.{refl, sym, _∙_}
+use Prim.Native.Nat.{ℕ}
+use mathlib.Core.Path.{sym}
+use mathlib.Core.List.{List}
 use denote.Ref.{now}
-use Rattle.plan.proofs.Readings.{reading-counts, reading-refused}
-use Rattle.prepare.proofs.Refusals.{count-unwell}
-use Rattle.prepare.proofs.Promises.{count-refused}
 use borrow.Author.Needs.{needs}
+use Rattle.plan.specs.Bytes.{asked}
+use Rattle.plan.proofs.Refusals.{asked-proper}
+use Rattle.plan.proofs.Loading.{blank}
+use Rattle.prepare.proofs.Promises.{count-refused, unread}
+use Rattle.prepare.proofs.Answers.{is-held, counts-asked}
 use Rattle.prepare.proofs.count.Statement.{statement}
 use Rattle.prepare.proofs.count.Tie as tie
 
-read-requires : tie.Need-read-requires
-read-requires c κs = search needs
+abbrev start : tie.After-load → tie.Start
+start c = c .before .before .before .before
 
-enum-known-reading : tie.Need-enum-known-reading
-enum-known-reading c = search needs
+abbrev plan : tie.After-loaded2 → List ℕ
+plan c = now (start (c .before .before) .args .plan)
 
-enum-known-reading-2 : tie.Need-enum-known-reading-2
-enum-known-reading-2 c = search needs
+load-requires : tie.Need-load-requires
+load-requires c κs = blank
 
-cast-count-sound : tie.Need-cast-count-sound
-cast-count-sound c = search needs
+enum-known-loaded : tie.Need-enum-known-loaded
+enum-known-loaded c = search needs
 
-cast-count-sound-2 : tie.Need-cast-count-sound-2
-cast-count-sound-2 c = search needs
+enum-known-loaded-2 : tie.Need-enum-known-loaded-2
+enum-known-loaded-2 c = search needs
 
-count-sound-requires : tie.Need-count-sound-requires
-count-sound-requires c κs = reading-counts _ (rw (c .before .before .reading2 .given .1) at (c .before .before .before .before .read .ensures))
+slice-aggregate-count-loaded : tie.Need-slice-aggregate-count-loaded
+slice-aggregate-count-loaded c = let l = c .before .before in sym ((rw (l .loaded2 .given .1) at (l .before .before .load .ensures)) .3)
+
+cast-count-loaded : tie.Need-cast-count-loaded
+cast-count-loaded c = search needs
+
+cast-count-loaded-2 : tie.Need-cast-count-loaded-2
+cast-count-loaded-2 c = search needs
+
+count-loaded-requires : tie.Need-count-loaded-requires
+count-loaded-requires c κs =
+    let l = c .before .before .before in
+    let (w, h, _, _) = rw (l .loaded2 .given .1) at (l .before .before .load .ensures) in
+    is-held (asked (plan l)) (asked-proper (plan l)) w h
 
 returns : tie.Need-returns
 returns c =
-    let (a, n) = reading-refused _ (rw (c .before .reading .given .1) at (c .before .before .before .read .ensures)) in
-    count-refused (now (c .before .before .before .before .before .before .args .plan)) (a ∙ sym (count-unwell (now (c .before .before .before .before .before .before .args .plan)) (λ e. n (a ∙ e)) _)) n
+    let l = c .before .before .before in
+    let (e, n) = rw (c .before .loaded .given .1) at (l .load .ensures) in
+    let p = now (start l .args .plan) in
+    count-refused (asked p) (asked-proper p) (unread (asked p) (asked-proper p) e n _) n
 
 same-length : tie.Need-same-length
 same-length c = search needs
 
 returns-2 : tie.Need-returns-2
-returns-2 c = search needs
+returns-2 c =
+    let d = c .before .before in
+    let l = d .before .before .before .before in
+    let (w, h, _, _) = rw (l .loaded2 .given .1) at (l .before .before .load .ensures) in
+    counts-asked (asked (plan l)) (asked-proper (plan l)) w h (d .count-loaded .result) _ _ (d .count-loaded .ensures)
 
 pub count-spec : {M : Type 1} → statement M
 count-spec =
     tie.close
     (tie.spec
-    read-requires
-    enum-known-reading
-    enum-known-reading-2
-    cast-count-sound
-    cast-count-sound-2
-    count-sound-requires
+    load-requires
+    enum-known-loaded
+    enum-known-loaded-2
+    slice-aggregate-count-loaded
+    cast-count-loaded
+    cast-count-loaded-2
+    count-loaded-requires
     returns
     same-length
     returns-2)

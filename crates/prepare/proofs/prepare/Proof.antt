@@ -1,36 +1,54 @@
 -- `prepare::prepare` meets its contract.
 -- Assumes nothing.
-use mathlib.Core.Path.{refl, sym, _∙_}
+use Prim.Native.Nat.{ℕ}
+use mathlib.Core.Path.{sym}
+use mathlib.Core.List.{List}
 use denote.Ref.{now}
-use Rattle.plan.proofs.Readings.{reading-counts, reading-refused}
-use Rattle.prepare.proofs.Refusals.{prepare-unwell}
-use Rattle.prepare.proofs.Promises.{prepare-refused}
 use borrow.Author.Needs.{needs}
+use Rattle.plan.specs.Bytes.{asked}
+use Rattle.plan.proofs.Refusals.{asked-proper}
+use Rattle.plan.proofs.Loading.{blank}
+use Rattle.prepare.proofs.Promises.{prepare-refused, unread}
+use Rattle.prepare.proofs.Answers.{is-held, prepares-asked}
 use Rattle.prepare.proofs.prepare.Statement.{statement}
 use Rattle.prepare.proofs.prepare.Tie as tie
 
-read-requires : tie.Need-read-requires
-read-requires c κs = search needs
+abbrev start : tie.After-load → tie.Start
+start c = c .before .before .before .before .before
 
-enum-known-reading : tie.Need-enum-known-reading
-enum-known-reading c = search needs
+abbrev plan : tie.After-loaded2 → List ℕ
+plan c = now (start (c .before .before) .args .plan)
 
-enum-known-reading-2 : tie.Need-enum-known-reading-2
-enum-known-reading-2 c = search needs
+load-requires : tie.Need-load-requires
+load-requires c κs = blank
 
-cast-prepare-sound : tie.Need-cast-prepare-sound
-cast-prepare-sound c = search needs
+enum-known-loaded : tie.Need-enum-known-loaded
+enum-known-loaded c = search needs
 
-cast-prepare-sound-2 : tie.Need-cast-prepare-sound-2
-cast-prepare-sound-2 c = search needs
+enum-known-loaded-2 : tie.Need-enum-known-loaded-2
+enum-known-loaded-2 c = search needs
 
-prepare-sound-requires : tie.Need-prepare-sound-requires
-prepare-sound-requires c κs = reading-counts _ (rw (c .before .before .before .reading2 .given .1) at (c .before .before .before .before .before .read .ensures))
+slice-aggregate-prepare-loaded : tie.Need-slice-aggregate-prepare-loaded
+slice-aggregate-prepare-loaded c = let l = c .before .before in sym ((rw (l .loaded2 .given .1) at (l .before .before .load .ensures)) .3)
+
+cast-prepare-loaded : tie.Need-cast-prepare-loaded
+cast-prepare-loaded c = search needs
+
+cast-prepare-loaded-2 : tie.Need-cast-prepare-loaded-2
+cast-prepare-loaded-2 c = search needs
+
+prepare-loaded-requires : tie.Need-prepare-loaded-requires
+prepare-loaded-requires c κs =
+    let l = c .before .before .before .before in
+    let (w, h, _, _) = rw (l .loaded2 .given .1) at (l .before .before .load .ensures) in
+    is-held (asked (plan l)) (asked-proper (plan l)) w h
 
 returns : tie.Need-returns
 returns c =
-    let (a, n) = reading-refused _ (rw (c .before .reading .given .1) at (c .before .before .before .read .ensures)) in
-    prepare-refused (now (c .before .before .before .before .before .before .before .args .plan)) (a ∙ sym (prepare-unwell (now (c .before .before .before .before .before .before .before .args .plan)) (λ e. n (a ∙ e)) _ _)) n
+    let l = c .before .before .before in
+    let (e, n) = rw (c .before .loaded .given .1) at (l .load .ensures) in
+    let p = now (start l .args .plan) in
+    prepare-refused (asked p) (asked-proper p) (unread (asked p) (asked-proper p) e n _) n
 
 same-length : tie.Need-same-length
 same-length c = search needs
@@ -39,18 +57,23 @@ same-length-2 : tie.Need-same-length-2
 same-length-2 c = search needs
 
 returns-2 : tie.Need-returns-2
-returns-2 c = search needs
+returns-2 c =
+    let d = c .before .before .before .before in
+    let l = d .before .before .before .before .before in
+    let (w, h, _, _) = rw (l .loaded2 .given .1) at (l .before .before .load .ensures) in
+    prepares-asked (asked (plan l)) (asked-proper (plan l)) w h (d .prepare-loaded .result) _ _ _ _ (d .prepare-loaded .ensures)
 
 pub prepare-spec : {M : Type 1} → statement M
 prepare-spec =
     tie.close
     (tie.spec
-    read-requires
-    enum-known-reading
-    enum-known-reading-2
-    cast-prepare-sound
-    cast-prepare-sound-2
-    prepare-sound-requires
+    load-requires
+    enum-known-loaded
+    enum-known-loaded-2
+    slice-aggregate-prepare-loaded
+    cast-prepare-loaded
+    cast-prepare-loaded-2
+    prepare-loaded-requires
     returns
     same-length
     same-length-2

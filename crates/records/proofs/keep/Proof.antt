@@ -6,7 +6,7 @@ use native.Mathlib.Numerals.{add-one}
 use native.Mathlib.Omega.{arith}
 use lib.ListN.{length, length-take, length-drop}
 use Rattle.streaming.specs.PlainWalk.{limit}
-use Rattle.records.specs.Taking.{pushed}
+use Rattle.records.specs.inner.Taking.{pushed}
 use Rattle.records.proofs.Bytes.{Tidy, tidy-out, part-back}
 use Rattle.records.proofs.Held.{taken-bytes}
 use borrow.Author.Needs.{needs}

@@ -12,7 +12,7 @@ use Rattle.bitset.proofs.Members.{strike-less}
 use Rattle.bitset.proofs.Taking.{Left, left-first, left-next, least-below, Picked, picked-first, picked-with, picked-without, picked-all}
 use Rattle.walks.proofs.Steps.{bare}
 use Rattle.walks.proofs.Words.{alone-lt}
-use Rattle.simulate.specs.Verdicts.{ends}
+use Rattle.simulate.specs.inner.Verdicts.{ends}
 use Rattle.simulate.proofs.Endings.{stuck-ends, ends-bare}
 use Rattle.simulate.proofs.ending.Statement.{statement}
 use Rattle.simulate.proofs.ending.Tie as tie
@@ -57,7 +57,8 @@ loop-again c =
     let i = t .before .loop .inv in
     let st = t .before .before .before .before in
     let p = some t in
-    let e = sym (c .before .stuck .ensures 0 ∙ stuck-ends (st .pre .0) (small t) (st .args .word .now) (c .before .before .reach-by .ensures 0)) in (
+    let r = c .before .before .reach-by .ensures 0 in
+    let e = sym (c .before .stuck .ensures 0 ∙ stuck-ends (st .pre .0) (small t) (st .args .word .now) r) in (
       left-next (i .0) p,
       ⊎-elim (λ w. rw (w .1) (picked-with (i .0) p (e ∙ w .0 .taken) (i .1)))
           (λ w. rw (w .1) (picked-without (i .0) p (e ∙ w .0 .left) (i .1)))

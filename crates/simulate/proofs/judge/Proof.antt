@@ -1,4 +1,4 @@
--- `judge` meets its contract: the refusals in order, then the verdict for the initial states or for a fork set.
+-- `judge` meets its contract: a law for each return.
 -- Assumes nothing.
 use Prim.Native.Nat.{_*_, _<_}
 use mathlib.Core.Bool.{false}
@@ -7,133 +7,103 @@ use native.Mathlib.Omega.{arith}
 use borrow.Author.Needs.{needs}
 use borrow.Author.Tests.{ltb-true}
 use Rattle.bitset.proofs.Tests.{and-out}
-use Rattle.semiautomata.specs.Predictability.{initial, fork}
 use Rattle.semiautomata.specs.Successors.{place}
 use Rattle.semiautomata.proofs.Successors.{place-lt}
-use Rattle.table.specs.Table.{statesOf, lettersOf, initialOf, setsOf, unfit}
-use Rattle.table.proofs.Fitness.{Fitting, fitting}
+use Rattle.table.proofs.Heads.{Headed, head-unfit, headed}
 use Rattle.walks.specs.Walking.{letterOff}
-use Rattle.simulate.proofs.Lent.{lent}
 use Rattle.walks.proofs.Letters.{letters-below}
-use Rattle.simulate.proofs.Naming.{fork-set, unfit-refused, letter-refused, name-refused, told}
+use Rattle.simulate.proofs.Naming.{judge-8, judge-letter, judge-name, told-initial, told-fork}
 use Rattle.simulate.proofs.judge.Statement.{statement}
 use Rattle.simulate.proofs.judge.Tie as tie
 
--- WHAT EACH TEST LEAVES
-
--- from the first test back to the start, and from the second back to the first
+-- from a test back to the start, and to an earlier test
 abbrev start : tie.Else1 → tie.Start
-start c = c .before .before .before .before
+start c = c .before .before .before .before .before
 
-abbrev first : tie.Else2 → tie.Else1
-first c = c .before .before .before .before
+abbrev second : tie.Else3 → tie.Else2
+second c = c .before .before
 
-sound : (c : tie.Else1) → unfit (start c .args .table .now) ≡ false
-sound c = sym (c .before .is-unfit .ensures) ∙ c .if1 .left
+head : (c : tie.Else2) → Headed (start (c .before .before) .args .table .now) (c .before .before .before .before .head-of .result)
+head c = let e = c .before .before in headed _ (e .before .before .head-of .ensures) (e .if1 .left)
 
-fit : (c : tie.Else1) → Fitting (start c .args .table .now)
-fit c = fitting _ (sound c)
-
-on : (c : tie.Else2) → let a = start (first c) .args in letterOff (lettersOf (a .table .now)) (a .word .now) ≡ false
+on : (c : tie.Else2) → let e = c .before .before in letterOff (e .before .before .head-of .result .m) (start e .args .word .now) ≡ false
 on c = sym (c .before .letter-off .ensures) ∙ c .if2 .left
 
--- a state and a letter of the table
-module _ (c : tie.Then4) where
-  both : let a = start (first (c .before .before .before)) .args in (a .state < statesOf (a .table .now)) × (a .letter < lettersOf (a .table .now))
-  both = let (h, g) = and-out _ _ (c .if4 .taken) in (ltb-true _ _ h, ltb-true _ _ g)
-
-  in-place : let a = start (first (c .before .before .before)) .args in place (lettersOf (a .table .now)) (a .state) (a .letter) < statesOf (a .table .now) * lettersOf (a .table .now)
-  in-place = place-lt _ _ _ _ (both .0) (both .1)
+-- the place of a state and a letter
+in-place : (c : tie.Then4) → let e = second (c .before) .before .before in
+    let h = e .before .before .head-of .result in let a = start e .args in place (h .m) (a .state) (a .letter) < h .n * h .m
+in-place c = let (h, g) = and-out _ _ (c .if4 .taken) in place-lt _ _ _ _ (ltb-true _ _ h) (ltb-true _ _ g)
 
 -- THE NEEDS
 
-is-unfit-requires : tie.Need-is-unfit-requires
-is-unfit-requires c κs = search needs
+head-of-requires : tie.Need-head-of-requires
+head-of-requires c κs = search needs
 
 returns : tie.Need-returns
-returns c = unfit-refused _ _ _ _ (sym (c .before .is-unfit .ensures) ∙ c .if1 .taken)
-
-shared-slice-read-n : tie.Need-shared-slice-read-n
-shared-slice-read-n c = omega (arith, fit (c .before) .room)
-
-shared-slice-read-m : tie.Need-shared-slice-read-m
-shared-slice-read-m c = omega (arith, fit (c .before .before) .room)
+returns c = judge-8 _ _ _ _ (sym (head-unfit _ (c .before .before .head-of .ensures)) ∙ c .if1 .taken)
 
 letter-off-requires : tie.Need-letter-off-requires
 letter-off-requires c κs = search needs
 
 returns-2 : tie.Need-returns-2
-returns-2 c = letter-refused _ _ _ _ (sound (c .before .before .before .before)) (sym (c .before .letter-off .ensures) ∙ c .if2 .taken)
+returns-2 c =
+    let e = c .before .before in
+    let h = headed _ (e .before .before .head-of .ensures) (e .if1 .left) in
+    judge-letter _ _ _ _ h (sym (c .before .letter-off .ensures) ∙ c .if2 .taken)
 
 sub-sets : tie.Need-sub-sets
-sub-sets c = omega (arith, fit (first c) .room)
+sub-sets c = omega (arith, head c .fits .room)
 
 part-sets-start : tie.Need-part-sets-start
-part-sets-start c = omega (arith, fit (first c) .room)
+part-sets-start c = omega (arith, head c .fits .room)
 
 part-sets-end : tie.Need-part-sets-end
 part-sets-end c = search needs
 
-shared-slice-read-judge-set : tie.Need-shared-slice-read-judge-set
-shared-slice-read-judge-set c = omega (arith, fit (first (c .before .before .before)) .room)
-
 judge-set-requires : tie.Need-judge-set-requires
-judge-set-requires c κs =
-    let t = c .before .before .before in
-    let f = fit (first t) in
-    (rw (lent 4 (start (first t) .args .table .now)) (f .fit), f .initial, letters-below _ _ (on t))
+judge-set-requires c κs = let t = c .before .before in (head t .fit, head t .initial, letters-below _ _ (on t))
 
 returns-3 : tie.Need-returns-3
-returns-3 c =
-    let t = c .before .before .before .before in
-    let table = start (first t) .args .table .now in
-    told _ _ _ _ (sound (first t)) (on t) initial (rw (c .before .before .if3 .taken)) (rw (lent 4 table) at (c .judge-set .ensures (initialOf table)))
+returns-3 c = let t = c .before .before .before in told-initial _ _ _ _ (head t) (on t) (c .before .if3 .taken) (c .judge-set .ensures)
 
 mul-set : tie.Need-mul-set
-mul-set c = omega (arith, in-place c, fit (first (c .before .before .before)) .room)
+mul-set c = omega (arith, in-place c, head (second (c .before)) .fits .room, head (second (c .before)) .fit)
 
 add-set : tie.Need-add-set
-add-set c = omega (arith, in-place c, fit (first (c .before .before .before)) .room)
+add-set c = omega (arith, in-place c, head (second (c .before)) .fit)
 
 mul-set-2 : tie.Need-mul-set-2
-mul-set-2 c = omega (arith, in-place c, fit (first (c .before .before .before)) .room)
+mul-set-2 c = omega (arith, in-place c, head (second (c .before)) .fit)
 
 shared-slice-read-set : tie.Need-shared-slice-read-set
-shared-slice-read-set c =
-    let t = first (c .before .before .before .before) in rw (lent 4 (start t .args .table .now)) (omega (arith, in-place (c .before), fit t .fit .room))
+shared-slice-read-set c = let t = c .before in omega (arith, in-place t, head (second (t .before)) .fit .room)
 
 judge-set-requires-2 : tie.Need-judge-set-requires-2
 judge-set-requires-2 c κs =
-    let t = c .before .before .before .before in
-    let f = fit (first t) in
-    rw (lent 4 (start (first t) .args .table .now)) (f .fit, f .fit .below _ (in-place (c .before)), letters-below _ _ (on t))
+    let t = c .before in
+    let e = second (t .before) in
+    (head e .fit, head e .fit .below _ (in-place t), letters-below _ _ (on e))
 
 returns-4 : tie.Need-returns-4
 returns-4 c =
-    let t = c .before .before .before .before .before in
-    let i = start (first t) .args in
-    let table = i .table .now in
-    let (q, a) = both (c .before .before) in
-    told _ _ _ _ (sound (first t)) (on t) (fork (i .state) (i .letter)) (rw (c .before .before .before .if3 .left, c .before .before .if4 .taken))
-    (rw (lent 4 table, fork-set (statesOf table) (lettersOf table) (initialOf table) (setsOf table) (i .state) (i .letter) q a) at (c .judge-set2 .ensures (initialOf table)))
+    let t = c .before .before in
+    let e = second (t .before) in
+    told-fork _ _ _ _ (head e) (on e) (t .before .if3 .left) (t .if4 .taken) (c .judge-set2 .ensures)
 
 returns-5 : tie.Need-returns-5
-returns-5 c = name-refused _ _ _ _ (sound (first (c .before .before .before))) (rw (c .before .if3 .left, c .if4 .left))
+returns-5 c = judge-name _ _ _ _ (head (second (c .before))) (c .before .if3 .left) (c .if4 .left)
 
 pub judge-spec : {M : Type 1} → statement M
 judge-spec =
     tie.close
     (tie.spec
-    is-unfit-requires
+    head-of-requires
     returns
-    shared-slice-read-n
-    shared-slice-read-m
     letter-off-requires
     returns-2
     sub-sets
     part-sets-start
     part-sets-end
-    shared-slice-read-judge-set
     judge-set-requires
     returns-3
     mul-set

@@ -14,7 +14,8 @@ survivors-of-requires : tie.Need-survivors-of-requires
 survivors-of-requires c κs = search needs
 
 ending-requires : tie.Need-ending-requires
-ending-requires c κs = let p = c .before .before .before .before .pre in (p .0, rw (c .before .survivors-of .ensures 0) (setOf-lt _ _), p .2)
+ending-requires c κs =
+    let p = c .before .before .before .before .pre in (p .0, rw (c .before .survivors-of .ensures 0) (setOf-lt _ _), p .2)
 
 returns : tie.Need-returns
 returns c starts = of-several _ _ _ (c .before .before .survivors-of .ensures starts) (c .before .if1 .taken) (c .ending .ensures starts)
@@ -23,7 +24,8 @@ returns-2 : tie.Need-returns-2
 returns-2 c starts = of-none _ _ _ (c .before .before .survivors-of .ensures starts) (c .if2 .taken)
 
 returns-3 : tie.Need-returns-3
-returns-3 c starts = of-one-empty _ _ _ (c .before .before .before .survivors-of .ensures starts) (omega (arith, c .before .if2 .left)) (c .if3 .taken)
+returns-3 c starts =
+    of-one-empty _ _ _ (c .before .before .before .survivors-of .ensures starts) (omega (arith, c .before .if2 .left)) (c .if3 .taken)
 
 sub-last : tie.Need-sub-last
 sub-last c = search needs
@@ -40,7 +42,8 @@ survivors-of-requires-2 c κs =
 returns-4 : tie.Need-returns-4
 returns-4 c starts =
     let t = c .before .before in
-    of-one _ _ _ (t .before .before .before .survivors-of .ensures starts) (omega (arith, t .before .if2 .left)) (omega (arith, t .if3 .left)) (c .survivors-of2 .ensures starts)
+    of-one _ _ _ (t .before .before .before .survivors-of .ensures starts) (omega (arith, t .before .if2 .left))
+    (omega (arith, t .if3 .left)) (c .survivors-of2 .ensures starts)
 
 pub judge-set-spec : {M : Type 1} → statement M
 judge-set-spec =

@@ -41,7 +41,9 @@ loop-less c = omega arith
 
 loop-again : tie.Need-loop-again Inv-loop μ-loop
 unfolding any
-loop-again c = (omega arith, λ starts. rw (add-one, c .before .before .before .before .loop .inv .1 starts) (none-of _ _ (c .before .before .gather .ensures .0 starts) (c .if1 .left)))
+loop-again c =
+    let i = c .before .before .before .before .loop .inv in
+    (omega arith, λ starts. rw (add-one, i .1 starts) (none-of _ _ (c .before .before .gather .ensures .0 starts) (c .if1 .left)))
 
 returns-2 : tie.Need-returns-2 Inv-loop μ-loop
 returns-2 c starts =

@@ -54,7 +54,7 @@ sub-result : tie.Need-sub-result
 sub-result c = ranged (c .before .before .before .before) .some-state
 
 mul-result : tie.Need-mul-result
-mul-result c = omega (arith, pairs-le (ranged (c .before .before .before .before)))
+mul-result c = omega (arith, pairs-le _ (ranged (c .before .before .before .before) .states))
 
 shared-slice-read-result : tie.Need-shared-slice-read-result
 shared-slice-read-result c = search needs

@@ -59,7 +59,7 @@ same-length : tie.Need-same-length Inv-loop μ-loop
 same-length c = simp length-set (c .before .loop .inv .1 .long)
 
 returns : tie.Need-returns Inv-loop μ-loop
-returns c = copied-all (c .before .loop .inv .1) _ _ _ _ (omega arith) (c .before .before .pre .3)
+returns c = let (fit, starts, room) = c .before .before .pre in copied-all (c .before .loop .inv .1) _ _ _ _ (omega arith) fit starts room
 
 pub write-spec : {M : Type 1} → statement M
 write-spec =

@@ -1,11 +1,16 @@
 -- `prepared` meets its contract.
 -- Assumes nothing.
-use mathlib.Core.Path.{refl, _∙_}
+use Prim.Native.Nat.{ℕ}
+use mathlib.Core.Path.{_≡_, refl, _∙_}
+use mathlib.Core.List.{List}
 use native.Mathlib.Omega.{arith}
 use lib.ListN.{length}
 use Rattle.semiautomata.specs.Predictability.{Lookahead}
-use Rattle.plan.specs.Bytes.{meaning}
-use Rattle.prepare.specs.Preparing.{Tabled}
+use Rattle.plan.specs.Bytes.{meaning, asked}
+use Rattle.plan.proofs.Refusals.{asked-proper, well-formed-sized}
+use Rattle.table.specs.Table.{laidOut}
+use Rattle.table.proofs.Form.{Reads}
+use Rattle.prepare.proofs.Answers.{sized-reads}
 use Rattle.prepare.proofs.Promises.{shown-never, prepare-refused-so}
 use Rattle.text.specs.Calls.{unpredictable, opens}
 use Rattle.lines.proofs.Lines.{appended-long}
@@ -15,9 +20,19 @@ use borrow.Author.Needs.{needs}
 use Rattle.text.proofs.prepared.Statement.{statement}
 use Rattle.text.proofs.prepared.Tie as tie
 
-ready : (c : tie.After-prepared) → let s = c .before .before .before .before .before .before .before .before .before .before .before .before in
-    Lookahead (meaning (s .args .plan .now)) (c .prepared .given .0 .0) × Tabled (meaning (s .args .plan .now)) (c .prepared .given .0 .0) (s .args .table .now) (c .before .before .before .before .before .prepare .last .1 .0)
+-- the start, the look-ahead that preparing answered, and the table that it left
+abbrev start : tie.After-prepared → tie.Start
+start c = c .before .before .before .before .before .before .before .before .before .before .before .before
+
+abbrev table : tie.After-prepared → List ℕ
+table c = c .before .before .before .before .before .prepare .last .1 .0
+
+ready : (c : tie.After-prepared) → let a = start c .args in let k = c .prepared .given .0 .0 in
+    Lookahead (meaning (a .plan .now)) k × (table c ≡ laidOut (meaning (a .plan .now)) k (a .table .now))
 ready c = let ((_, l), t, _) = rw (c .prepared .given .1) at (c .before .before .before .before .before .prepare .ensures) in (l, t)
+
+reads : (c : tie.After-prepared) → Reads (meaning (start c .args .plan .now)) (c .prepared .given .0 .0) (table c)
+reads c = let s = start c in let (l, t) = ready c in sized-reads (well-formed-sized (s .args .plan .now) (s .pre .0)) l (s .args .table .now) t
 
 slice-aggregate-prepare : tie.Need-slice-aggregate-prepare
 slice-aggregate-prepare c = search needs
@@ -32,7 +47,9 @@ lookahead-requires : tie.Need-lookahead-requires
 lookahead-requires c κs = record { fits = omega (arith, lookahead-width (c .before .before .prepared .given .0 .0) (omega (arith, c .before .known-told .given)), c .before .before .before .before .before .before .before .before .before .before .before .before .before .before .pre .3) }
 
 opened-requires : tie.Need-opened-requires
-opened-requires c κs = let (l, t) = ready (c .before .before .before .before .before .before .before .before) in
+opened-requires c κs = let r = c .before .before .before .before .before .before .before .before in
+    let l = ready r .0 in
+    let t = reads r in
     let p = c .before .before .before .before .before .lookahead .ensures in
     let s = c .before .before .before .before .before .before .before .before .before .before .before .before .before .before .before .before .before .before .before .before in
     (t .fit, rw (t .means, t .k-is) l, s .pre .2, omega (arith, p .end, appended-long p, lookahead-width (c .before .before .before .before .before .before .before .before .prepared .given .0 .0) (omega (arith, c .before .before .before .before .before .before .before .known-told .given)), s .pre .3))
@@ -59,9 +76,10 @@ same-length-3 : tie.Need-same-length-3
 same-length-3 c = search needs
 
 returns : tie.Need-returns
-returns c = let (l, t) = ready (c .before .before .before .before .before .before .before .before .before .before .before .before .before) in
+returns c = let r = c .before .before .before .before .before .before .before .before .before .before .before .before .before in
+    let (l, t) = ready r in
     let (lays, left, ends) = c .before .before .before .before .opened .ensures in
-    (counted l t (c .before .before .before .before .before .before .before .before .before .before .lookahead .ensures) (c .before .before .before .before .opened .result) (c .before .before .before .before .opened .last .1 .1 .0) (c .before .before .before .before .opened .last .1 .0) lays, opens _ l t left ends)
+    (counted l (reads r) (c .before .before .before .before .before .before .before .before .before .before .lookahead .ensures) (c .before .before .before .before .opened .result) (c .before .before .before .before .opened .last .1 .1 .0) (c .before .before .before .before .opened .last .1 .0) lays, opens _ l t left ends)
 
 same-length-4 : tie.Need-same-length-4
 same-length-4 c = search needs
@@ -71,7 +89,7 @@ same-length-5 c = search needs
 
 returns-2 : tie.Need-returns-2
 returns-2 c = let s = c .before .before .before .before .before .before .before .before .before .before .before .before .before .before .before .before .before in
-    let (e, n, _, _) = prepare-refused-so (s .args .plan .now) (rw (c .before .before .before .before .before .prepared2 .given .1) at (c .before .before .before .before .before .before .before .before .before .before .prepare .ensures)) in
+    let (e, n, _, _) = prepare-refused-so (asked (s .args .plan .now)) (asked-proper (s .args .plan .now)) (rw (c .before .before .before .before .before .prepared2 .given .1) at (c .before .before .before .before .before .before .before .before .before .before .prepare .ensures)) in
     absurd (n (e ∙ prepare-taken (s .args .plan .now) (s .pre .0) (length (s .args .table .now)) 4096 (s .pre .1) (omega arith)))
 
 same-length-6 : tie.Need-same-length-6

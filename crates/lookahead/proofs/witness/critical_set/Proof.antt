@@ -10,7 +10,7 @@ use native.Mathlib.Nat.{mul-le-mul}
 use borrow.Author.Count.{below-more}
 use Rattle.semiautomata.proofs.Shares.{member-lt}
 use Rattle.semiautomata.proofs.Successors.{fit-within, some-letter, state-lt, letter-lt}
-use Rattle.lookahead.proofs.Rivals.{names-initial, names-fork, together-none}
+use Rattle.lookahead.proofs.Rivalry.{names-initial, names-fork, together-none}
 use Rattle.lookahead.proofs.witness.critical_set.Statement.{statement}
 use Rattle.lookahead.proofs.witness.critical_set.Tie as tie
 
@@ -20,68 +20,52 @@ Inv-loop sets n m starts s t i₀ i-end i = (i ≤ n * m) × ((k : ℕ) → k < 
 abbrev μ-loop : tie.MeasureT-loop
 μ-loop sets n m starts s t i₀ i-end i = n * m - i
 
+abbrev start : tie.In-loop Inv-loop μ-loop → tie.Start Inv-loop μ-loop
+start c = c .before .before .before .before .before
+
+abbrev turn : tie.Then2 Inv-loop μ-loop → tie.In-loop Inv-loop μ-loop
+turn c = c .before .before .before
+
 small : (c : tie.Start Inv-loop μ-loop) → (c .args .s < 64) × (c .args .t < 64)
 small c =
     let (f, h, k) = c .pre in
     let W = fit-within _ _ _ _ f h in
     (omega (arith, member-lt W (k .set) _ (k .left), f .states), omega (arith, member-lt W (k .set) _ (k .right), f .states))
 
-some : (c : tie.Then2 Inv-loop μ-loop) → 0 < c .before .before .before .before .before .before .before .before .args .m
-some c = let a = c .before .before .before .before .before .before .before .before .args in some-letter (a .n) (a .m) _ (c .before .before .before .loop-test .taken)
+places : (c : tie.Start Inv-loop μ-loop) → c .args .n * c .args .m ≤ 2048
+places c = let f = c .pre .0 in mul-le-mul (f .states) (f .letters)
 
-has-both-requires : tie.Need-has-both-requires Inv-loop μ-loop
-has-both-requires c κs = small (c .before)
+some : (c : tie.Then2 Inv-loop μ-loop) → 0 < start (turn c) .args .m
+some c = let a = start (turn c) .args in some-letter (a .n) (a .m) _ (turn c .loop-test .taken)
 
 returns : tie.Need-returns Inv-loop μ-loop
-returns c = let a = c .before .before .before .args in names-initial (a .n) (a .m) (a .starts) (a .sets .now) (a .s) (a .t) (sym (c .before .has-both .ensures) ∙ c .if1 .taken)
-
-mul-i-end : tie.Need-mul-i-end Inv-loop μ-loop
-mul-i-end c = let f = c .before .before .before .pre .0 in omega (arith, mul-le-mul (f .states) (f .letters))
-
-loop-holds : tie.Need-loop-holds Inv-loop μ-loop
-loop-holds c = (omega arith, λ k h. absurd (omega arith))
-
-mul-has-both : tie.Need-mul-has-both Inv-loop μ-loop
-mul-has-both c = let f = c .before .before .before .before .before .pre .0 in omega (arith, mul-le-mul (f .states) (f .letters))
-
-shared-slice-read-has-both : tie.Need-shared-slice-read-has-both Inv-loop μ-loop
-shared-slice-read-has-both c = omega (arith, c .before .before .before .before .before .before .pre .0 .room)
-
-has-both-requires-2 : tie.Need-has-both-requires-2 Inv-loop μ-loop
-has-both-requires-2 c κs = small (c .before .before .before .before .before .before)
-
-div-state : tie.Need-div-state Inv-loop μ-loop
-div-state c = some c
+returns c =
+    let a = c .before .before .before .args in
+    names-initial (a .n) (a .m) (a .starts) (a .sets .now) (a .s) (a .t) (sym (c .before .has-both .ensures) ∙ c .if1 .taken)
 
 cast-state : tie.Need-cast-state Inv-loop μ-loop
-cast-state c = let st = c .before .before .before .before .before .before .before .before in omega (arith, state-lt (st .args .n) (st .args .m) _ (c .before .before .before .loop-test .taken), st .pre .0 .states)
-
-rem-letter : tie.Need-rem-letter Inv-loop μ-loop
-rem-letter c = some c
+cast-state c = let s = start (turn c) in omega (arith, state-lt (s .args .n) (s .args .m) _ (turn c .loop-test .taken), s .pre .0 .states)
 
 cast-letter : tie.Need-cast-letter Inv-loop μ-loop
-cast-letter c = let st = c .before .before .before .before .before .before .before .before in omega (arith, letter-lt (st .args .n) (st .args .m) _ (c .before .before .before .loop-test .taken), st .pre .0 .letters)
+cast-letter c =
+    let s = start (turn c) in
+    omega (arith, letter-lt (s .args .n) (s .args .m) _ (turn c .loop-test .taken), s .pre .0 .letters)
 
 returns-2 : tie.Need-returns-2 Inv-loop μ-loop
 returns-2 c =
-    let st = c .before .before .before .before .before .before .before .before in
-    let a = st .args in
-    names-fork (a .n) (a .m) (a .starts) (a .sets .now) (a .s) (a .t) (st .pre .0 .states) _ (c .before .before .before .loop-test .taken) (sym (c .before .has-both2 .ensures) ∙ c .if2 .taken)
-
-add-i : tie.Need-add-i Inv-loop μ-loop
-add-i c = omega arith
-
-loop-less : tie.Need-loop-less Inv-loop μ-loop
-loop-less c = omega arith
-
-loop-again : tie.Need-loop-again Inv-loop μ-loop
-loop-again c = (omega arith, below-more _ _ (c .before .before .before .before .loop .inv .1) (sym (c .before .has-both2 .ensures) ∙ c .if2 .left))
+    let s = start (turn c) in
+    let a = s .args in
+    names-fork (a .n) (a .m) (a .starts) (a .sets .now) (a .s) (a .t) (s .pre .0 .states) _ (turn c .loop-test .taken)
+    (sym (c .before .has-both2 .ensures) ∙ c .if2 .taken)
 
 returns-3 : tie.Need-returns-3 Inv-loop μ-loop
 returns-3 c =
-    let st = c .before .before .before .before .before in
-    let a = st .args in
-    absurd (together-none (a .n) (a .m) (a .starts) (a .sets .now) (a .s) (a .t) (sym (c .before .before .before .has-both .ensures) ∙ c .before .before .if1 .left) (λ k h. c .before .loop .inv .1 k (omega arith)) (st .pre .2))
+    let e = c .before .before in
+    let s = e .before .before .before in
+    let a = s .args in
+    let none = sym (e .before .has-both .ensures) ∙ e .if1 .left in
+    absurd (together-none (a .n) (a .m) (a .starts) (a .sets .now) (a .s) (a .t) none
+    (λ k h. c .before .loop .inv .1 k (omega arith)) (s .pre .2))
 
 pub critical-set-spec : {M : Type 1} → statement M
 critical-set-spec =
@@ -89,19 +73,21 @@ critical-set-spec =
     (tie.spec
     Inv-loop
     μ-loop
-    has-both-requires
+    (λ c κs. small (c .before))
     returns
-    mul-i-end
-    loop-holds
-    mul-has-both
-    shared-slice-read-has-both
-    has-both-requires-2
-    div-state
+    (λ c. omega (arith, places (c .before .before .before)))
+    (λ c. (omega arith, λ k h. absurd (omega arith)))
+    (λ c. omega (arith, places (start c)))
+    (λ c. omega (arith, start (c .before) .pre .0 .room))
+    (λ c κs. small (start (c .before)))
+    (λ c. some c)
     cast-state
-    rem-letter
+    (λ c. some c)
     cast-letter
     returns-2
-    add-i
-    loop-less
-    loop-again
+    (λ c. omega arith)
+    (λ c. omega arith)
+    (λ c.
+    let i = c .before .before .before .before .loop .inv in
+    (omega arith, below-more _ _ (i .1) (sym (c .before .has-both2 .ensures) ∙ c .if2 .left)))
     returns-3)

@@ -1,0 +1,43 @@
+-- Rivals: two different states of one critical set that counts, as rows and by a name. What the inner functions promise each other.
+-- Assumes nothing.
+use Prim.Native.Nat.{ℕ, _<_}
+use mathlib.Core.Bool.{true, _&&_, _||_}
+use mathlib.Core.Option.{some}
+use mathlib.Core.Path.{_≡_}
+use mathlib.Core.List.{List}
+use lib.ListN.{length}
+use Rattle.bitset.specs.Numbers.{has}
+use Rattle.semiautomata.specs.Semiautomaton.{Semiautomaton}
+use Rattle.semiautomata.specs.Predictability.{Critical, member, named, Counts}
+use Rattle.semiautomata.specs.Successors.{successors}
+use Rattle.pairs.specs.Rows.{pair}
+use Rattle.pairs.specs.Sharing.{Lasting}
+
+-- some critical set that counts has both s and t
+pub record Together (S : Semiautomaton) (s t : ℕ) : Type 0 where
+  pub set : Critical
+  pub counts : Counts S set
+  pub left : member S set s ≡ true
+  pub right : member S set t ≡ true
+
+-- two numbers name such a set
+pub record Named (S : Semiautomaton) (q a s t : ℕ) : Type 0 where
+  pub together : Together S s t
+  pub names : named S q a ≡ some (together .set)
+
+-- the different states of the set are paired with each other, and no other two different states are
+pub record Matched (set : ℕ) (old new : List ℕ) : Type 0 where
+  pub long : length new ≡ length old
+  pub is : (s t : ℕ) → ¬ (s ≡ t) → pair new s t ≡ (pair old s t || has set s && has set t)
+
+-- two different states are a pair of the rows exactly if they are together in some critical set
+pub record Rivalry (S : Semiautomaton) (rows : List ℕ) : Type 0 where
+  pub from : (s t : ℕ) → ¬ (s ≡ t) → pair rows s t ≡ true → Together S s t
+  pub into : (s t : ℕ) → ¬ (s ≡ t) → Together S s t → pair rows s t ≡ true
+
+-- low and high are together in some critical set and share words of every length, and so do exactly the pairs of the rows
+pub record Endless (n m starts : ℕ) (sets rows : List ℕ) (low high : ℕ) : Type 0 where
+  pub lasting : Lasting (successors n m 0 sets) rows
+  pub order : low < high
+  pub together : Together (successors n m starts sets) low high
+  pub lasts : pair rows low high ≡ true

@@ -1,0 +1,45 @@
+-- What the functions of a round promise each other.
+-- Assumes nothing.
+use Prim.Native.Nat.{ℕ, _<_}
+use mathlib.Core.Bool.{Bool, true, not, _&&_}
+use mathlib.Core.Logic.{_⊎_}
+use mathlib.Core.Path.{_≡_}
+use mathlib.Core.List.{List}
+use lib.Dec.{leb}
+use Rattle.bitset.specs.Sets.{any}
+use Rattle.bitset.specs.Numbers.{has, setOf}
+use Rattle.semiautomata.specs.Semiautomaton.{Semiautomaton}
+use Rattle.semiautomata.specs.Walks.{step}
+use Rattle.semiautomata.specs.Levels.{live}
+use Rattle.semiautomata.specs.Successors.{successors}
+use Rattle.pairs.specs.Rows.{pair}
+use Rattle.pairs.specs.Sharing.{leads}
+use Rattle.pairs.specs.inner.Rows.{after, Paired}
+
+-- the rows hold the pairs that are live for j letters
+pub record Level (S : Semiautomaton) (j : ℕ) (rows : List ℕ) : Type 0 where
+  pub is : (s t : ℕ) → s < S .n → t < S .n → pair rows s t ≡ live S j s t
+
+-- a pair that is looked at and led on to no live pair
+abbrev pub dying : Semiautomaton → List ℕ → List ℕ → ℕ → ℕ → Bool
+dying S alive look s t = pair look s t && pair alive s t && not (leads S alive s t)
+
+-- it is tested with its higher state first
+abbrev pub falls : Semiautomaton → List ℕ → List ℕ → ℕ → ℕ → Bool
+falls S alive look s t = leb t s && dying S alive look s t
+
+-- what a round strikes by the tests of the rows below k: the pairs that fall, in both orders; `gone` has their lower states
+pub record Struck (S : Semiautomaton) (alive look struck : List ℕ) (gone k : ℕ) : Type 0 where
+  pub both : (s t : ℕ) → s < k → falls S alive look s t ≡ true → (pair struck s t ≡ true) × (pair struck t s ≡ true)
+  pub only : (s t : ℕ) → pair struck s t ≡ true
+      → ((s < k) × (falls S alive look s t ≡ true)) ⊎ ((t < k) × (falls S alive look t s ≡ true))
+  pub some : (t : ℕ) → has gone t ≡ any k (λ s. falls S alive look s t)
+
+-- each pair that some letter leads to s and a state of the set is looked at too
+abbrev pub Woken : (n m : ℕ) (back : List ℕ) (s set : ℕ) (old new : List ℕ) → Type 0
+Woken n m back s set old new = Paired old new (after m back s) (λ a. setOf n (step (successors n m 0 back) (has set) a)) m
+
+-- each pair that some letter leads to a struck pair of the rows below k is looked at
+pub record Waking (m : ℕ) (back struck look : List ℕ) (k : ℕ) : Type 0 where
+  pub wakes : (s t a x y : ℕ) → s < k → pair struck s t ≡ true → a < m
+      → has (after m back s a) x ≡ true → has (after m back t a) y ≡ true → pair look x y ≡ true

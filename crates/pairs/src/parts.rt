@@ -1,0 +1,85 @@
+// What pairing up and the rounds are made of: joining a set at places, turning the table round, taking pairs out, and the search for two.
+ghost use mathlib.Core.Bool.{true};
+ghost use mathlib.Core.Path.{_≡_};
+ghost use Prim.Native.Nat.{ℕ, _≤_, _<_};
+ghost use lib.ListN.{length};
+ghost use Rattle.bitset.specs.Numbers.{has};
+ghost use Rattle.semiautomata.specs.Successors.{place, Fit};
+ghost use Rattle.pairs.specs.inner.Rows.{JoinedAt, Without, Union, Searched, Turned, Blank};
+
+// Each of the firsts has a place among `width` of its own, `at`: the seconds are joined to what stands there.
+pub fn join(rows: &mut [u64], width: usize, at: usize, firsts: u64, seconds: u64)
+    requires { ⌜ (at < width) × ((s : ℕ) → has firsts s ≡ true → place width s at < length (now rows)) ⌝ }
+    ensures { λ r. ⌜ JoinedAt width at (has firsts) seconds (now (rows .entry)) (now (rows .exit)) ⌝ }
+{
+    let mut rest = firsts;
+    while rest != 0 {
+        let s = u64::trailing_zeros(rest) as usize;
+        let here = s * width + at;
+        rows[here] = rows[here] | seconds;
+        rest &= rest - 1;
+    }
+}
+
+// The table turned round, into zeros: at each state and letter the states that the letter leads there.
+pub fn turn(back: &mut [u64; 2048], sets: &[u64], n: usize, m: usize)
+    requires { ⌜ Fit n m (now sets) × Blank (now back) ⌝ }
+    ensures { λ r. ⌜ (length (now (back .exit)) ≡ 2048) × Turned n m (now (sets .entry)) (now (back .exit)) ⌝ }
+{
+    for s in 0..n {
+        for a in 0..m {
+            join(back, m, a, sets[s * m + a], 1 << s);
+        }
+    }
+}
+
+// Rows, and the union of them.
+pub struct Left {
+    pub rows: [u64; 64],
+    pub any: u64,
+}
+
+// The pairs of the rows but for the struck ones, which are among them.
+pub fn without(n: usize, rows: &[u64; 64], struck: &[u64; 64]) -> Left
+    requires { ⌜ n ≤ 64 ⌝ }
+    ensures { λ r. ⌜ Without (now (rows .entry)) (now (struck .entry)) (r .rows) n × Union (r .rows) (r .any) n ⌝ }
+{
+    let mut left = [0u64; 64];
+    let mut any: u64 = 0;
+    for s in 0..n {
+        let row = rows[s] ^ struck[s];
+        left[s] = row;
+        any |= row;
+    }
+    Left { rows: left, any }
+}
+
+// Two states, the lower first.
+pub struct Two {
+    pub found: bool,
+    pub low: usize,
+    pub high: usize,
+}
+
+// Two different states that are a pair of both rows.
+pub fn common(n: usize, live: &[u64; 64], rival: &[u64; 64]) -> Two
+    requires { ⌜ n ≤ 64 ⌝ }
+    ensures { λ r. ⌜ Searched n (now (live .entry)) (now (rival .entry)) r ⌝ }
+{
+    for t in 0..n {
+        let both = live[t] & rival[t] & bitset::mask(t as u32);
+        if both != 0 {
+            let low = u64::trailing_zeros(both) as usize;
+            return Two {
+                found: true,
+                low,
+                high: t,
+            };
+        }
+    }
+    Two {
+        found: false,
+        low: 0,
+        high: 0,
+    }
+}

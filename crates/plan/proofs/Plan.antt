@@ -1,0 +1,36 @@
+-- A plan whose starts and lines have their numbers below their counts means a semiautomaton with nothing outside its states and letters.
+-- Assumes nothing.
+use Prim.Native.Nat.{ℕ, _<_}
+use mathlib.Core.Bool.{true, false, not}
+use mathlib.Core.Path.{_≡_}
+use native.Mathlib.Omega.{arith}
+use lib.Dec.{eqb, ltb, leb}
+use borrow.Author.Tests.{ltb-true, leb-false, eqb-true, not-false}
+use Rattle.bitset.proofs.Tests.{and-out}
+use Rattle.bitset.proofs.Below.{with-any, any-not}
+use Rattle.semiautomata.specs.Semiautomaton.{Within}
+use Rattle.plan.specs.Plan.{Plan, startHigh, lineOff, lineFits, semiautomaton}
+
+module _ (P : Plan) (starts : startHigh P ≡ false) (lines : lineOff P ≡ false) where
+  start-lt : (i : ℕ) → i < P .p → P .start i < P .n
+  start-lt i h = leb-false (P .n) (P .start i) (any-not (P .p) (λ i. leb (P .n) (P .start i)) starts i h)
+
+  line-fits : (i : ℕ) → i < P .e → lineFits P (P .line i) ≡ true
+  line-fits i h = not-false _ (any-not (P .e) (λ i. not (lineFits P (P .line i))) lines i h)
+
+  edge-fits : (s a t : ℕ) → semiautomaton P .edge s a t ≡ true → (s < P .n) × (a < P .m) × (t < P .n)
+  edge-fits s a t = with-any _ _ λ i h q.
+      let l = P .line i in
+      let (p₁, p′) = and-out (ltb (l .from) (P .n)) _ (line-fits i h) in
+      let (p₂, p₃) = and-out (ltb (l .letter) (P .m)) _ p′ in
+      let (q₁, q′) = and-out (eqb (l .from) s) _ q in
+      let (q₂, q₃) = and-out (eqb (l .letter) a) _ q′ in
+      omega (arith, ltb-true, eqb-true)
+
+  pub plan-within : Within (semiautomaton P)
+  plan-within = record {
+    initial-lt = λ s. with-any _ _ λ i h q. omega (arith, start-lt i h, eqb-true (P .start i) s q);
+    from-lt = λ s a t e. edge-fits s a t e .0;
+    letter-lt = λ s a t e. edge-fits s a t e .1;
+    to-lt = λ s a t e. edge-fits s a t e .2;
+  }

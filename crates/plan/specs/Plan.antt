@@ -1,0 +1,64 @@
+-- A plan as document 01 speaks of it, read off its bytes or written down, and the semiautomaton that it means.
+-- Assumes nothing.
+use Prim.Native.Nat.{ℕ}
+use mathlib.Core.Bool.{Bool, not, _&&_, _||_}
+use lib.Dec.{eqb, ltb, leb}
+use Rattle.bitset.specs.Sets.{any}
+use Rattle.semiautomata.specs.Semiautomaton.{Semiautomaton}
+use Rattle.refusals.specs.Checks.{within}
+
+-- A line: from, letter (code), to.
+pub record Line : Type 0 where
+  pub from : ℕ
+  pub letter : ℕ
+  pub to : ℕ
+
+-- The counts of states and letters, of starts and of lines, and the start and the line at each place of their lists.
+pub record Plan : Type 0 where
+  pub n : ℕ
+  pub m : ℕ
+  pub p : ℕ
+  pub e : ℕ
+  pub start : ℕ → ℕ
+  pub line : ℕ → Line
+
+-- The line says that letter a leads from s to t.
+abbrev pub says : Line → ℕ → ℕ → ℕ → Bool
+says l s a t = eqb (l .from) s && (eqb (l .letter) a && eqb (l .to) t)
+
+-- A state is initial if some start is it; there is an edge if some line says so.
+abbrev pub semiautomaton : Plan → Semiautomaton
+semiautomaton P = record {
+  n = P .n;
+  m = P .m;
+  initial = λ s. any (P .p) (λ i. eqb (P .start i) s);
+  edge = λ s a t. any (P .e) (λ i. says (P .line i) s a t);
+}
+
+-- WHAT MAKES A PLAN UNFIT, by the number of its refusal
+
+-- 3: a count out of range: n is from 1 to 64, m from 1 to 32, p from 0 to n, e from 0 to 4,096
+abbrev pub countOff : ℕ → ℕ → ℕ → ℕ → Bool
+countOff n m p e = not (within 1 64 n) || (not (within 1 32 m) || (ltb n p || ltb 4096 e))
+
+-- two places of a list of c hold the same
+abbrev pub twice : ℕ → (ℕ → ℕ → Bool) → Bool
+twice c same = any c (λ j. any j (λ i. same i j))
+
+-- 5: a start not below n, or twice
+abbrev pub startHigh : Plan → Bool
+startHigh P = any (P .p) (λ i. leb (P .n) (P .start i))
+
+abbrev pub startOff : Plan → Bool
+startOff P = startHigh P || twice (P .p) (λ i j. eqb (P .start i) (P .start j))
+
+-- 6: a line's number not below its count
+abbrev pub lineFits : Plan → Line → Bool
+lineFits P l = ltb (l .from) (P .n) && (ltb (l .letter) (P .m) && ltb (l .to) (P .n))
+
+abbrev pub lineOff : Plan → Bool
+lineOff P = any (P .e) (λ i. not (lineFits P (P .line i)))
+
+-- 7: a line twice
+abbrev pub lineTwice : Plan → Bool
+lineTwice P = twice (P .e) (λ i j. says (P .line i) (P .line j .from) (P .line j .letter) (P .line j .to))

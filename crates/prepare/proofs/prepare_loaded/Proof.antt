@@ -1,0 +1,96 @@
+-- `prepare::prepare_loaded` meets its contract.
+-- Assumes nothing.
+use Prim.Native.Nat.{_*_, _≤_}
+use mathlib.Core.Path.{refl}
+use native.Mathlib.Omega.{arith}
+use borrow.Author.Needs.{needs}
+use borrow.Author.Tests.{le-ltb}
+use Rattle.plan.proofs.Entering.{room}
+use Rattle.prepare.proofs.Refusals.{table-short}
+use Rattle.prepare.proofs.Promises.{prepare-refused}
+use Rattle.prepare.proofs.Answers.{held-proper, held-passes}
+use Rattle.prepare.proofs.prepare_loaded.Statement.{statement}
+use Rattle.prepare.proofs.prepare_loaded.Tie as tie
+
+few : (s : tie.Start) → s .args .n * s .args .m ≤ 2048
+few s = room (s .pre .fit .states) (s .pre .fit .letters)
+
+mul-if1 : tie.Need-mul-if1
+mul-if1 c = omega (arith, few (c .before .before .before))
+
+add-if1 : tie.Need-add-if1
+add-if1 c = omega (arith, few (c .before .before .before))
+
+returns : tie.Need-returns
+returns c = let s = c .before .before .before .before in prepare-refused _ (held-proper (s .pre)) (table-short _ (held-proper (s .pre)) (held-passes (s .pre)) _ (c .if1 .taken)) (λ e. omega arith)
+
+count-loaded-requires : tie.Need-count-loaded-requires
+count-loaded-requires c κs = search needs
+
+enum-known-counted : tie.Need-enum-known-counted
+enum-known-counted c = search needs
+
+write-requires : tie.Need-write-requires
+write-requires c κs =
+    let n = c .before .before .before .before .before .before in
+    let held = n .before .before .before .before .before .before .pre in
+    (held .fit, held .starts-fit, n .before .before .if1 .left)
+
+enum-known-counted-2 : tie.Need-enum-known-counted-2
+enum-known-counted-2 c = search needs
+
+enum-known-counted-3 : tie.Need-enum-known-counted-3
+enum-known-counted-3 c = search needs
+
+same-length : tie.Need-same-length
+same-length c = search needs
+
+same-length-2 : tie.Need-same-length-2
+same-length-2 c = search needs
+
+returns-2 : tie.Need-returns-2
+returns-2 c =
+    let w = c .before .before in
+    let l = w .before .before .before in
+    let n = l .before .before .before .before in
+    let room = n .before .before .if1 .left in
+    let (p, e) = rw (l .counted .given .1) at (n .count-loaded .ensures) in
+    (rw (le-ltb _ _ room) p, w .write .ensures, e)
+
+same-length-3 : tie.Need-same-length-3
+same-length-3 c = search needs
+
+returns-3 : tie.Need-returns-3
+returns-3 c =
+    let n = c .before .before .before .before .before in
+    let (p, e) = rw (c .before .counted2 .given .1) at (n .count-loaded .ensures) in
+    (rw (le-ltb _ _ (n .before .before .if1 .left)) p, refl, e)
+
+same-length-4 : tie.Need-same-length-4
+same-length-4 c = search needs
+
+returns-4 : tie.Need-returns-4
+returns-4 c =
+    let n = c .before .before .before .before .before in
+    let (p, e) = rw (c .before .counted3 .given .1) at (n .count-loaded .ensures) in
+    (rw (le-ltb _ _ (n .before .before .if1 .left)) p, refl, e)
+
+pub prepare-loaded-spec : {M : Type 1} → statement M
+prepare-loaded-spec =
+    tie.close
+    (tie.spec
+    mul-if1
+    add-if1
+    returns
+    count-loaded-requires
+    enum-known-counted
+    write-requires
+    enum-known-counted-2
+    enum-known-counted-3
+    same-length
+    same-length-2
+    returns-2
+    same-length-3
+    returns-3
+    same-length-4
+    returns-4)
