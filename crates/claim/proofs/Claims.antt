@@ -3,7 +3,7 @@
 use Prim.Native.Nat.{ℕ, zero, suc, _+_, _-_, _*_, _%_, _^_, _≤_, _<_}
 use mathlib.Core.Bool.{Bool, true, false, not, _&&_, _||_, true≢false, false≢true, and-true, and-false}
 use mathlib.Core.Option.{Option, some, none}
-use mathlib.Core.Path.{_≡_, refl, sym, _∙_, subst, fun-ext}
+use mathlib.Core.Path.{_≡_, refl, sym, _∙_, fun-ext}
 use mathlib.Core.Logic.{_↔_, inl, inr}
 use mathlib.Core.List.{List, [], _∷_, _++_}
 use native.Mathlib.Omega.{arith}
@@ -62,7 +62,8 @@ module _ (n m starts : ℕ) (sets : List ℕ) (q a : ℕ) where
     named-fork f h g = record {
       some-set = λ T d.
           let i : fork q a ≡ T = cc (rw (no, lt-ltb q n h, lt-ltb a m g) at d) in
-          rw (← i) (is-setOf n (successors n m starts sets .edge q a) (getD sets (place m q a) 0) (f .below (place m q a) (place-lt n m q a h g)) (λ t _. sym (edge-is n m starts sets q a t h g)));
+          rw (← i) (is-setOf n (successors n m starts sets .edge q a) (getD sets (place m q a) 0)
+          (f .below (place m q a) (place-lt n m q a h g)) (λ t _. sym (edge-is n m starts sets q a t h g)));
       no-set = λ d. let z : _≡_ {A = ℕ} 0 1 = cc (rw (no, lt-ltb q n h, lt-ltb a m g) at d) in absurd (omega arith);
     }
 
@@ -111,7 +112,8 @@ module _ {n m : ℕ} {sets : List ℕ} (f : Fit n m sets) (w : List ℕ) where
       no-so = λ d. absurd (true≢false d);
     }
 
-    pub led-no : set < 2 ^ n → any n (λ x. has set x && leadsBack n m sets w x) ≡ false → (starts : ℕ) → LedBack (successors n m starts sets) set w false
+    pub led-no : set < 2 ^ n → any n (λ x. has set x && leadsBack n m sets w x) ≡ false → (starts : ℕ)
+        → LedBack (successors n m starts sets) set w false
     unfolding leadsBack
     led-no h e starts = record {
       yes-so = λ d. absurd (false≢true d);
@@ -132,8 +134,10 @@ module _ {n m : ℕ} {sets : List ℕ} (f : Fit n m sets) {s : ℕ} (h : s < n) 
   one-has : has one s ≡ true
   one-has = rw (o, has-setOf, lt-ltb s 64 (omega (arith, f .states))) (eq-eqb s s refl)
 
-  pub loops : (stem cycle : List ℕ) {reached : ℕ} {r : Bool} → ((starts : ℕ) → reached ≡ setOf n (reach (successors n m starts sets) (has one) stem))
-      → ((starts : ℕ) → LedBack (successors n m starts sets) reached cycle r) → (starts : ℕ) → Loops (successors n m starts sets) s stem cycle r
+  pub loops : (stem cycle : List ℕ) {reached : ℕ} {r : Bool}
+      → ((starts : ℕ) → reached ≡ setOf n (reach (successors n m starts sets) (has one) stem))
+      → ((starts : ℕ) → LedBack (successors n m starts sets) reached cycle r) → (starts : ℕ) → Loops
+      (successors n m starts sets) s stem cycle r
   loops stem cycle {reached} {r} e b starts = record {
     yes-so = λ y.
         let (x, d, p) = b starts .yes-so y in
@@ -142,7 +146,9 @@ module _ {n m : ℕ} {sets : List ℕ} (f : Fit n m sets) {s : ℕ} (h : s < n) 
     no-so = λ y l.
         let u = path-same n m starts 0 sets stem s (l .knot) (l .reached) in
         let below = path-lt (bare n m sets) (bare-within f) stem s (l .knot) h u in
-        b starts .no-so y (l .knot) (rw (e 0, has-setOf, lt-ltb (l .knot) n below) (reach-in (bare n m sets) (bare-within f) (has one) stem s (l .knot) one-has u)) (l .back);
+        b starts .no-so y (l .knot)
+        (rw (e 0, has-setOf, lt-ltb (l .knot) n below) (reach-in (bare n m sets) (bare-within f) (has one) stem s (l .knot) one-has u))
+        (l .back);
   }
 
 -- THE LETTERS
@@ -153,13 +159,15 @@ path-letters W (a ∷ w) s t (r, e, p) zero h = W .letter-lt s a r e
 path-letters W (a ∷ w) s t (r, e, p) (suc i) h = path-letters W w r t p i (omega arith)
 
 -- a part of a word has no other letters
-part-letters : {m : ℕ} (end : ℕ) (word : List ℕ) → Letters m (take end word) → end ≤ length word → (at size : ℕ) → at + size ≤ end → Letters m (take size (drop at word))
+part-letters : {m : ℕ} (end : ℕ) (word : List ℕ) → Letters m (take end word) → end ≤ length word → (at size : ℕ) → at + size ≤ end
+    → Letters m (take size (drop at word))
 part-letters end word l h at size g = record {
   below = λ i k.
       let fits : size ≤ length (drop at word) = rw length-drop (omega arith) in
       let k : i < size = rw (length-take-le size (drop at word) fits) at k in
       let e : at + i < end = omega arith in
-      rw (getD-take size (drop at word) i 0 k, getD-drop) (rw (getD-take end word (at + i) 0 e) at (l .below (at + i) (rw (length-take-le end word h) e)));
+      rw (getD-take size (drop at word) i 0 k, getD-drop)
+      (rw (getD-take end word (at + i) 0 e) at (l .below (at + i) (rw (length-take-le end word h) e)));
 }
 
 -- THE CLAIM
@@ -191,7 +199,8 @@ lengthsOff n k letters = (eqb (k .cycle) 0 || ltb (n * n) (k .stem + k .cycle)) 
 
 -- the letters do not end before the lengths do
 pub lengths-there : (n : ℕ) (k : Evidence) (letters : List ℕ) → lengthsOff n k letters ≡ false → k .stem + k .cycle ≤ length letters
-lengths-there n k letters e = ltb-false (length letters) (k .stem + k .cycle) (or-none (eqb (k .cycle) 0 || ltb (n * n) (k .stem + k .cycle)) _ e .1)
+lengths-there n k letters e =
+    ltb-false (length letters) (k .stem + k .cycle) (or-none (eqb (k .cycle) 0 || ltb (n * n) (k .stem + k .cycle)) _ e .1)
 
 module _ (k : Evidence) (letters : List ℕ) (h : k .stem + k .cycle ≤ length letters) where
   pub stem-length : length (take (k .stem) letters) ≡ k .stem
@@ -225,10 +234,12 @@ module _ {S : Semiautomaton} (W : Within S) (k : Evidence) (letters : List ℕ) 
       let stem = take (k .stem) letters in
       let cycle = take (k .cycle) (drop (k .stem) letters) in
       rw (take-add (k .stem) (k .cycle) letters) (record {
-        below = path-letters W (stem ++ cycle) (k .low) (l .knot) (path-join S stem cycle (k .low) (l .knot) (l .knot) (l .reached) (l .back));
+        below =
+            path-letters W (stem ++ cycle) (k .low) (l .knot) (path-join S stem cycle (k .low) (l .knot) (l .knot) (l .reached) (l .back));
       })
 
-  module _ {set : ℕ} (N : NamedSet S (k .state) (k .letter) set) {low high : Bool} (low-is : low ≡ has set (k .low)) (high-is : high ≡ has set (k .high)) where
+  module _ {set : ℕ} (N : NamedSet S (k .state) (k .letter) set) {low high : Bool}
+      (low-is : low ≡ has set (k .low)) (high-is : high ≡ has set (k .high)) where
     pub claimed-states : TrueOf S k letters → statesOff k low high ≡ false
     claimed-states c =
         let w = c .witness in
@@ -276,7 +287,8 @@ module _ {S : Semiautomaton} (W : Within S) (k : Evidence) (letters : List ℕ) 
               };
             }
 
-        pub claimed-answer : {x y : Bool} → Loops S (k .low) (take (k .stem) letters) (take (k .stem + k .cycle - k .stem) (drop (k .stem) letters)) x
+        pub claimed-answer : {x y : Bool}
+            → Loops S (k .low) (take (k .stem) letters) (take (k .stem + k .cycle - k .stem) (drop (k .stem) letters)) x
             → Loops S (k .high) (take (k .stem) letters) (take (k .stem + k .cycle - k .stem) (drop (k .stem) letters)) y
             → ((x && y) ≡ true → TrueOf S k letters) × ((x && y) ≡ false → ¬ TrueOf S k letters)
         claimed-answer {x} {y} l r =

@@ -1,13 +1,10 @@
 // The check of a claim that a plan has no look-ahead: plan bytes and any claim, true, false or nonsense.
-ghost use mathlib.Core.Path.{_≡_};
-ghost use mathlib.Core.Bool.{true, false};
 ghost use Prim.Native.Nat.{ℕ, _^_, _<_};
 ghost use Rattle.semiautomata.specs.Successors.{successors, Fit};
 ghost use Rattle.walks.specs.Walking.{Letters};
-ghost use Rattle.lookahead.specs.Answers.{TrueOf};
 ghost use Rattle.plan.specs.Bytes.{asked};
 ghost use Rattle.claim.specs.Checking.{Checks};
-ghost use Rattle.claim.specs.inner.Steps.{LedBack, Loops, NamedSet};
+ghost use Rattle.claim.specs.inner.Steps.{LedBack, Loops, NamedSet, Truth};
 use lookahead::Evidence;
 use plan::Loaded;
 
@@ -61,7 +58,7 @@ fn has_lasso(sets: &[u64], n: usize, m: usize, s: u32, stem: &[u8], cycle: &[u8]
 // The claim about sets that are loaded.
 fn is_true(sets: &[u64], n: usize, m: usize, starts: u64, claim: Evidence, letters: &[u8]) -> bool
     requires { ⌜ Fit n m (now sets) × (starts < 2 ^ n) ⌝ }
-    ensures { λ r. ⌜ (r ≡ true → TrueOf (successors n m starts (now (sets .entry))) claim (now (letters .entry))) × (r ≡ false → ¬ TrueOf (successors n m starts (now (sets .entry))) claim (now (letters .entry))) ⌝ }
+    ensures { λ r. ⌜ Truth (successors n m starts (now (sets .entry))) claim (now (letters .entry)) r ⌝ }
 {
     let s = claim.low;
     let t = claim.high;

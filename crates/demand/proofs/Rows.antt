@@ -1,7 +1,7 @@
 -- What is said of plans A to H: tests computed over the whole table, and one law that turns them into what each row says.
 -- Assumes nothing.
-use Prim.Native.Nat.{ℕ, zero, suc, _-_, _*_, _/_, _≤_, _<_}
-use mathlib.Core.Bool.{Bool, true, false, not, _&&_, false≢true}
+use Prim.Native.Nat.{ℕ, suc, _-_, _*_, _/_, _≤_, _<_}
+use mathlib.Core.Bool.{Bool, true, false, not, false≢true}
 use mathlib.Core.Option.{Option, some, none}
 use mathlib.Core.Path.{_≡_, refl, sym, _∙_, ap, subst}
 use mathlib.Core.Logic.{inl, inr}
@@ -9,7 +9,7 @@ use mathlib.Core.List.{List, [], _∷_}
 use native.Mathlib.Omega.{arith}
 use lib.Dec.{eqb, ltb}
 use lib.ListN.{length, getD, take}
-use borrow.Author.Tests.{eqb-true, le-ltb, not-true}
+use borrow.Author.Tests.{eqb-true, le-ltb}
 use Rattle.bitset.specs.Sets.{any, size}
 use Rattle.bitset.specs.Numbers.{setOf}
 use Rattle.bitset.proofs.Tests.{not-so}
@@ -22,8 +22,7 @@ use Rattle.semiautomata.specs.Levels.{live, clashIn, clash}
 use Rattle.refusals.specs.Outcomes.{Outcome, refused, answered}
 use Rattle.semiautomata.proofs.Shares.{lookahead-unique, lookahead-predicts}
 use Rattle.semiautomata.proofs.Computed.{longest-unique}
-use Rattle.plan.specs.Asked.{refusalOf}
-use Rattle.plan.specs.Bytes.{meaning, planChecks, asked, refusal, WellFormed}
+use Rattle.plan.specs.Bytes.{meaning, asked, refusal, WellFormed}
 use Rattle.plan.proofs.Refusals.{well-formed-within, asked-proper}
 use Rattle.prepare.specs.declared.Prepared.{Prepared}
 use Rattle.prepare.specs.Preparing.{LooksAhead, asNumber, Draws}
@@ -74,30 +73,41 @@ module _ (plan : List ℕ) (W : Within (meaning plan)) (k : ℕ) (table : List �
   fit : unfit table ≡ false
   fit = t (asked plan) (asked-proper plan) k table made .fit
 
-  walk-so : (w sets : List ℕ) → any (meaning plan .n) (meaning plan .initial) ≡ true → letterOff (meaning plan .m) w ≡ false → Longest (meaning plan) w (length w)
-      → ((i : ℕ) → i ≤ length w → Stands (meaning plan .n) (PossibleAt (meaning plan) w i) (getD sets i 0)) → (old out : List ℕ) (a : Walked) → length w < length old → Walks table w a old out
+  walk-so : (w sets : List ℕ) → any (meaning plan .n) (meaning plan .initial) ≡ true → letterOff (meaning plan .m) w ≡ false
+      → Longest (meaning plan) w (length w)
+      → ((i : ℕ) → i ≤ length w → Stands (meaning plan .n) (PossibleAt (meaning plan) w i) (getD sets i 0))
+      → (old out : List ℕ) (a : Walked) → length w < length old → Walks table w a old out
       → (a ≡ walks.Upto (length w)) × ((i : ℕ) → i ≤ length w → getD out i 0 ≡ getD sets i 0)
   unfolding walkRefusal
   walk-so w sets begun letters whole stand old out (walks.Refused r) room (e, n, _) =
       let e9 : ltb (length old) (suc (length w)) ≡ false = le-ltb (length old) (suc (length w)) room in
       let e12 : letterOff (lettersOf table) w ≡ false = subst (λ (S : Semiautomaton). letterOff (S .m) w ≡ false) (sym means) letters in
-      let e13 : any (statesOf table) (tableMeaning table .initial) ≡ true = subst (λ (S : Semiautomaton). any (S .n) (S .initial) ≡ true) (sym means) begun in
+      let e13 : any (statesOf table) (tableMeaning table .initial) ≡ true =
+      subst (λ (S : Semiautomaton). any (S .n) (S .initial) ≡ true) (sym means) begun in
       absurd (n (e ∙ rw (fit, e9, e12, e13)))
   walk-so w sets begun letters whole stand old out (walks.Upto h) room c =
       let (l, s, _, _) = walked-so table w h old out c in
-      let q : h ≡ length w = longest-unique (meaning plan) w h (length w) (subst (λ (S : Semiautomaton). Longest S w h) means l) whole in
-      (ap walks.Upto q, λ i g. one-set _ _ _ _ (subst (λ (S : Semiautomaton). Stands (S .n) (PossibleAt S w i) (getD out i 0)) means (s i (omega arith))) (stand i g))
+      let q : h ≡ length w = longest-unique (meaning plan) w h (length w) (subst (λ (S : Semiautomaton). Longest S w h) means l) whole in (
+        ap walks.Upto q,
+        λ i g.
+            one-set _ _ _ _ (subst (λ (S : Semiautomaton). Stands (S .n) (PossibleAt S w i) (getD out i 0)) means
+            (s i (omega arith))) (stand i g),
+      )
 
-  judge-so : (q a : ℕ) (w : List ℕ) (v : Verdict) → named (meaning plan) q a ≡ some (fork q a) → letterOff (meaning plan .m) w ≡ false → Tells (meaning plan) (fork q a) w v
+  judge-so : (q a : ℕ) (w : List ℕ) (v : Verdict) → named (meaning plan) q a ≡ some (fork q a) → letterOff (meaning plan .m) w ≡ false
+      → Tells (meaning plan) (fork q a) w v
       → (r : Judged) → Judges table q a w r → r ≡ judging.Told v
   unfolding verdictRefusal
   judge-so q a w v named-so letters tell (judging.Refused r) (e, n, _) =
       let e12 : letterOff (lettersOf table) w ≡ false = subst (λ (S : Semiautomaton). letterOff (S .m) w ≡ false) (sym means) letters in
-      let e′ : named (tableMeaning table) q a ≡ some (fork q a) = subst (λ (S : Semiautomaton). named S q a ≡ some (fork q a)) (sym means) named-so in
+      let e′ : named (tableMeaning table) q a ≡ some (fork q a) =
+      subst (λ (S : Semiautomaton). named S q a ≡ some (fork q a)) (sym means) named-so in
       absurd (n (e ∙ rw (fit, e′, e12)))
   judge-so q a w v named-so letters tell (judging.Told u) (_, t) =
-      let e′ : named (tableMeaning table) q a ≡ some (fork q a) = subst (λ (S : Semiautomaton). named S q a ≡ some (fork q a)) (sym means) named-so in
-      ap judging.Told (one-verdict (meaning plan) (fork q a) w u v (subst (λ (S : Semiautomaton). Tells S (fork q a) w u) means (t (fork q a) e′)) tell)
+      let e′ : named (tableMeaning table) q a ≡ some (fork q a) =
+      subst (λ (S : Semiautomaton). named S q a ≡ some (fork q a)) (sym means) named-so in
+      ap judging.Told (one-verdict (meaning plan) (fork q a) w u v
+      (subst (λ (S : Semiautomaton). Tells S (fork q a) w u) means (t (fork q a) e′)) tell)
 
 not-false : (b : Bool) → not b ≡ false → b ≡ true
 not-false true e = refl
@@ -119,11 +129,14 @@ is-so : (plan : List ℕ) → Within (meaning plan) → (c : Saying) → Compute
 is-so plan W (walked w sets) (begun, letters, whole, at) = λ k table old out a made.
     let S = meaning plan in
     let l : Longest S w (length w) = rw whole at (longest-some S W w begun) in
-    walk-so plan W k table made w sets begun letters l (λ i h. possible-stands S w W (length w) l i h (eqb-true _ _ (not-false _ (any-not _ _ at i (omega arith))))) old out a
-is-so plan W (judged q a w v) (name, letters, c) = λ k table r made. judge-so plan W k table made q a w v name letters (tells (meaning plan) W (fork q a) c) r
+    walk-so plan W k table made w sets begun letters l
+    (λ i h. possible-stands S w W (length w) l i h (eqb-true _ _ (not-false _ (any-not _ _ at i (omega arith))))) old out a
+is-so plan W (judged q a w v) (name, letters, c) =
+    λ k table r made. judge-so plan W k table made q a w v name letters (tells (meaning plan) W (fork q a) c) r
 is-so plan W at-bound e = λ k table made. lookahead-unique (made .prepared .0 .1) (ahead-so (meaning plan) W (some _) e)
 is-so plan W unopened e = λ k table bytes left a made room o.
-    theorems (asked plan) (asked-proper plan) k table made .opening-refused bytes a left room o (λ s. not-so _ λ q. false≢true (sym e ∙ any-in _ _ s (W .initial-lt s q) q))
+    theorems (asked plan) (asked-proper plan) k table made .opening-refused bytes a left room o
+    (λ s. not-so _ λ q. false≢true (sym e ∙ any-in _ _ s (W .initial-lt s q) q))
 
 all-so : (plan : List ℕ) → Within (meaning plan) → (cs : List Saying) → AllComputed (meaning plan) cs → AllSo plan cs
 all-so plan W [] _ = tt

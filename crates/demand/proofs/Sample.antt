@@ -15,7 +15,6 @@ use Rattle.plan.proofs.Refusals.{asked-proper}
 use Rattle.table.specs.Table.{unfit, laidOut}
 use Rattle.prepare.specs.Preparing.{refusalWith, prepareRefusal}
 use Rattle.records.specs.Bytes.{tidy}
-use Rattle.predictor.specs.declared.Answer.{Answer}
 use Rattle.predictor.specs.declared.Answer.the-variants.{Refused, Resolved, Nothing}
 use Rattle.predictor.specs.Calls.{openedOn, fedOn, Opens, Feeds}
 use Rattle.demand.specs.Demand.{Made, none, more, Walk}
@@ -98,5 +97,6 @@ pub sample : Sample
 sample = record {
   made = made;
   walk = walk;
-  demand3 = walked-right (asked planA) (asked-proper planA) 1 tableA made offered Nothing answers walk (λ r e. let z : _≡_ {A = ℕ} 0 1 = cc in absurd (omega arith));
+  demand3 = walked-right (asked planA) (asked-proper planA) 1 tableA made offered Nothing answers walk (λ r e. let z : _≡_ {A = ℕ} 0 1 =
+      cc in absurd (omega arith));
 }

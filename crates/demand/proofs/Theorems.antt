@@ -33,7 +33,7 @@ use Rattle.predictor.specs.declared.Answer.{Answer}
 use Rattle.records.specs.Bytes.{heldFrom, decode, tidy}
 use Rattle.predictor.specs.Replies.{said}
 use Rattle.predictor.specs.Calls.{letterChecks, written, openedOn, fedOn, Opens}
-use Rattle.demand.specs.Demand.{Made, Walk, Taken, Theorems, Demand, DemandMet}
+use Rattle.demand.specs.Demand.{Made, Walk, Taken, Theorems, DemandMet}
 use Rattle.predictor.proofs.Following.{Holds, Small, encode-holds, follows-small, opened-is}
 use Rattle.demand.proofs.Feeding.{feeding-replies}
 
@@ -60,7 +60,8 @@ module _ (table : List ℕ) (fit : unfit table ≡ false) (P : Predictable (tabl
 
   module _ (s : ℕ) (e : tableMeaning table .initial s ≡ true) where
     -- opening leaves bytes that hold the record of no letters
-    opened-holds : (bytes : List ℕ) → heldFrom + lookaheadOf table ≤ length bytes → Holds (lookaheadOf table) (openedOn table bytes .state) (opened (tableMeaning table) (lookaheadOf table) .state)
+    opened-holds : (bytes : List ℕ) → heldFrom + lookaheadOf table ≤ length bytes
+        → Holds (lookaheadOf table) (openedOn table bytes .state) (opened (tableMeaning table) (lookaheadOf table) .state)
     opened-holds bytes h = rw (opened-is table fit bytes h) (go (opened S k .reply) refl)
       where
         S : Semiautomaton
@@ -83,11 +84,17 @@ module _ (table : List ℕ) (fit : unfit table ≡ false) (P : Predictable (tabl
         let S = tableMeaning table in
         let k = lookaheadOf table in
         let h = w .room in
-        let reply : said first ≡ opened S k .reply = w .opening .0 ∙ ap (λ (x : Result (List ℕ)). x .reply) (opened-is table fit (w .bytes) h) in
+        let reply : said first ≡ opened S k .reply = w .opening .0
+        ∙ ap (λ (x : Result (List ℕ)). x .reply) (opened-is table fit (w .bytes) h) in
         let holds : Holds k (w .left) (opened S k .state) = rw (w .opening .1) (opened-holds (w .bytes) h) in
-        rw (reply, feeding-replies table fit W P (few table fit) (w .feeding) (opened S k .state) [] holds (opened-agrees S W k P s e .state))
+        rw (
+          reply,
+          feeding-replies table fit W P (few table fit) (w .feeding) (opened S k .state) [] holds
+              (opened-agrees S W k P s e .state),
+        )
 
-    on-demand3 : Lookahead (tableMeaning table) (lookaheadOf table) → (offered : List ℕ) (first : Answer) (answers : List Answer) → Walk table (lookaheadOf table) offered first answers
+    on-demand3 : Lookahead (tableMeaning table) (lookaheadOf table) → (offered : List ℕ) (first : Answer) (answers : List Answer)
+        → Walk table (lookaheadOf table) offered first answers
         → Demand3 (tableMeaning table) (lookaheadOf table) offered (map said (first ∷ answers))
     on-demand3 l offered first answers w =
         rw (walk-streamed offered first answers w) (over-meaning.demand3 (tableMeaning table) W (lookaheadOf table) P s e offered)

@@ -37,7 +37,8 @@ pub record Made (A : Asked) (k : ℕ) (table : List ℕ) : Type 0 where
 pub data Feeding (table : List ℕ) : List ℕ → List ℕ → List Answer → Type 0 where
   none : {bytes : List ℕ} → Feeding table bytes [] []
   more : {bytes left : List ℕ} {letter : ℕ} {answer : Answer} {letters : List ℕ} {answers : List Answer}
-      → Feeds table bytes letter answer left → Feeding table left letters answers → Feeding table bytes (letter ∷ letters) (answer ∷ answers)
+      → Feeds table bytes letter answer left → Feeding table left letters answers
+      → Feeding table bytes (letter ∷ letters) (answer ∷ answers)
 
 -- The same from opening on, in bytes of any content, at least 8 + k of them.
 pub record Walk (table : List ℕ) (k : ℕ) (offered : List ℕ) (first : Answer) (answers : List Answer) : Type 0 where

@@ -55,7 +55,8 @@ IsSo plan (walked word sets) =
     → (a ≡ Upto (length word)) × ((i : ℕ) → i ≤ length word → getD out i 0 ≡ getD sets i 0)
 IsSo plan (judged q a word v) = (k : ℕ) (table : List ℕ) (r : Judged) → Made (asked plan) k table → Judges table q a word r → r ≡ Told v
 IsSo plan unopened =
-    (k : ℕ) (table bytes left : List ℕ) (a : Answer) → Made (asked plan) k table → heldFrom + k ≤ length bytes → Opens table bytes a left → said a ≡ reply.refused 13
+    (k : ℕ) (table bytes left : List ℕ) (a : Answer) → Made (asked plan) k table → heldFrom + k ≤ length bytes → Opens table bytes a left
+    → said a ≡ reply.refused 13
 IsSo plan at-bound = (k : ℕ) (table : List ℕ) → Made (asked plan) k table → k ≡ headerOf plan .n * (headerOf plan .n - 1) / 2
 
 abbrev pub AllSo : List ℕ → List Saying → Type 0
@@ -64,7 +65,8 @@ AllSo plan (c ∷ cs) = IsSo plan c × AllSo plan cs
 
 -- What a row says of its plan's bytes: the calls answer its look-ahead, or 15; what else is said is so.
 pub record RowHolds (plan : List ℕ) (lookahead : Option ℕ) (sayings : List Saying) : Type 0 where
-  pub counted : (a : Prepared) (old letters : List ℕ) → headerOf plan .n * headerOf plan .n ≤ length old → CountsTo (asked plan) a old letters
+  pub counted : (a : Prepared) (old letters : List ℕ) → headerOf plan .n * headerOf plan .n ≤ length old
+      → CountsTo (asked plan) a old letters
       → Replied lookahead a
   pub prepared : (a : Prepared) (old table old′ letters : List ℕ) → setsFrom + headerOf plan .n * headerOf plan .m ≤ length old
       → headerOf plan .n * headerOf plan .n ≤ length old′ → Prepares (asked plan) a old table old′ letters → Replied lookahead a

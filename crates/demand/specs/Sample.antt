@@ -1,7 +1,7 @@
 -- Demand 3 on concrete bytes: plan A, its table and record as numbers, the legs of document 01's sample and refused ones among them.
 -- Assumes nothing.
 use Prim.Native.Nat.{ℕ}
-use mathlib.Core.List.{List, [], _∷_, map}
+use mathlib.Core.List.{List, [], _∷_}
 use Rattle.streaming.specs.Calls.{Reply, refused, resolved, nothing}
 use Rattle.streaming.specs.Demand3.{Demand3}
 use Rattle.plan.specs.Bytes.{meaning, asked}

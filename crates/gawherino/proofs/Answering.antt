@@ -1,15 +1,15 @@
 -- The numbers of answers: refusals are 1 to 15, and values are small.
 -- Assumes nothing.
 use Prim.Native.Nat.{ℕ, suc, _-_, _≤_, _<_}
-use mathlib.Core.Bool.{Bool, true, false, cond, not}
+use mathlib.Core.Bool.{Bool, true, false, cond}
 use mathlib.Core.Option.{Option, some, none}
 use mathlib.Core.Path.{_≡_, refl, sym, subst}
-use mathlib.Core.Logic.{_⊎_, inl, inr}
-use mathlib.Core.List.{List, [], _∷_, _++_, append-nil}
+use mathlib.Core.Logic.{inl, inr}
+use mathlib.Core.List.{List, [], _∷_, _++_}
 use native.Mathlib.Omega.{arith}
 use lib.Dec.{ltb}
 use lib.ListN.{length}
-use Rattle.bitset.specs.Sets.{any, one-if}
+use Rattle.bitset.specs.Sets.{one-if}
 use Rattle.bitset.proofs.Tests.{decided}
 use Rattle.semiautomata.specs.Semiautomaton.{Semiautomaton}
 use Rattle.streaming.specs.Calls.{Reply, refused, resolved, nothing, Result, checked}
@@ -51,7 +51,8 @@ use Rattle.predictor.specs.declared.Ended.the-variants as ended
 use Rattle.predictor.specs.Calls.{tableCheck, recordCheck, bytesCheck, openingChecks, letterChecks, onto, openedOn, fedOn}
 use Rattle.predictor.specs.Calls.{Opens, Feeds, endChecks, endRefusal, Ends}
 use Rattle.records.specs.Bytes.{decode}
-use Rattle.gawherino.specs.Numbers.{Numbers, refusing, ofReading, ofPrepared, ofChecked, ofWalked, ofJudged, ofAnswer, ofEnded, PassesOn, answers, refuses}
+use Rattle.gawherino.specs.Numbers.{Numbers, refusing, ofReading, ofPrepared, ofChecked, ofWalked, ofJudged, ofAnswer, ofEnded}
+use Rattle.gawherino.specs.Numbers.{PassesOn, answers, refuses}
 use Rattle.gawherino.specs.Theorems.{Number, value, refusal as refusal-number}
 use Rattle.gawherino.proofs.Endings.{few-ended}
 
@@ -63,10 +64,12 @@ refused-number cs n {r} e z = let h = first-le 15 cs n in refusal-number r (omeg
 -- for want of room some refusal is given
 no-room : (cs : List Check) → Numbered 15 cs → (1 ≤ firstOf (cs ++ short true)) × (firstOf (cs ++ short true) ≤ 15)
 no-room cs n =
-    let z : ¬ (firstOf (cs ++ short true) ≡ 0) = λ z. let (_, nine) = first-both 15 cs (short true) n .0 z in absurd (omega (arith, nine)) in
+    let z : ¬ (firstOf (cs ++ short true) ≡ 0) = λ z. let (_, nine) = first-both 15 cs (short true) n .0 z in
+    absurd (omega (arith, nine)) in
     (omega (arith, z), first-le 15 (cs ++ short true) (numbered-both 15 cs (short true) n refl))
 
-pub gives-number : {A : Type 0} {numbers : A → Numbers} {room : ℕ} {before : List Check} {Meets : A → Type 0} {Kept : Type 0} {r : ℕ} {old more : List ℕ}
+pub gives-number : {A : Type 0} {numbers : A → Numbers} {room : ℕ} {before : List Check} {Meets : A
+    → Type 0} {Kept : Type 0} {r : ℕ} {old more : List ℕ}
     → Numbered 15 before → ((a : A) → Meets a → Number (numbers a .first)) → PassesOn numbers room before Meets Kept r old more → Number r
 gives-number n f (answers _ a m p) = rw (p .answered) (f a m)
 gives-number {before = before} n f (refuses _ e _ _) = let (l, h) = no-room before n in refusal-number _ l h e
@@ -85,8 +88,10 @@ module _ (A : Asked) (P : Proper A) where
   unfolding refusalWith
   short-number b = refused-number (A .checks ++ short b) (numbered-both 15 (A .checks) (short b) asked-numbered refl)
 
-  pub prepared-number : (old table old′ letters : List ℕ) (a : Prepared) → Prepares A a old table old′ letters → Number (ofPrepared a .first)
-  prepared-number old table old′ letters (Ready k) ((p, a), _, _) = let h = small (P .sized (clear-passes A P _ p)) k a in value (omega arith)
+  pub prepared-number : (old table old′ letters : List ℕ) (a : Prepared) → Prepares A a old table old′ letters
+      → Number (ofPrepared a .first)
+  prepared-number old table old′ letters (Ready k) ((p, a), _, _) = let h = small (P .sized (clear-passes A P _ p)) k a in
+      value (omega arith)
   prepared-number old table old′ letters (Refused r) c = let (e, z, _, _) = prepare-refused-so A P c in short-number _ e z
   prepared-number old table old′ letters (Unpredictable e) _ = refusal-number 15 (omega arith) (omega arith) refl
 
@@ -175,7 +180,8 @@ module _ (table bytes : List ℕ) where
   n = statesOf table
 
   -- where 8 does not apply
-  settled-small : (cs : List Check) → firstOf (tableCheck table ∷ cs) ≡ 0 → (X : ℕ → Bool) (fed : ℕ) (w : List ℕ) → Small n (settle S k X fed w)
+  settled-small : (cs : List Check) → firstOf (tableCheck table ∷ cs) ≡ 0 → (X : ℕ → Bool) (fed : ℕ) (w : List ℕ)
+      → Small n (settle S k X fed w)
   settled-small cs e = elim (decided (unfit table)) [
     | inl u ↦ let z : _≡_ {A = ℕ} 8 0 = rw u at e in absurd (omega arith)
     | inr u ↦ settle-small S (fitting table u .states) k

@@ -27,7 +27,8 @@ module _ {A : Type 0} (k : ℕ) (w : List ℕ) (f : ℕ → A) where
   last-few p zero e = omega arith
   last-few p (suc c) e = go (decided (leb (p + k) (length w))) (last-few (suc p) c (omega arith))
     where
-      go : (leb (p + k) (length w) ≡ true) ⊎ (leb (p + k) (length w) ≡ false) → length (collect (λ i. not (leb (i + k) (length w))) f (range (suc p) c)) ≤ min c k
+      go : (leb (p + k) (length w) ≡ true) ⊎ (leb (p + k) (length w) ≡ false)
+          → length (collect (λ i. not (leb (i + k) (length w))) f (range (suc p) c)) ≤ min c k
           → length (collect (λ i. not (leb (i + k) (length w))) f (range p (suc c))) ≤ min (suc c) k
       go (inl a) h = rw a (omega arith)
       go (inr a) h = rw a (omega (arith, leb-false (p + k) (length w) a))

@@ -40,7 +40,8 @@ short-false S claim letters h t =
 
 module _ (A : Asked) (claim letters : List ℕ) where
   -- what the check of a claim answers, in a number
-  pub passes-check : {c : Evidence} → c ≡ claimOf claim → (a : Checked) → Checks A c letters a → {r : ℕ} → r ≡ ofChecked a .first → PassesCheck A claim letters r
+  pub passes-check : {c : Evidence} → c ≡ claimOf claim → (a : Checked) → Checks A c letters a → {r : ℕ} → r ≡ ofChecked a .first
+      → PassesCheck A claim letters r
   passes-check i a m e = go a (rw i at m) e
     where
       go : (a : Checked) → Checks A (claimOf claim) letters a → {r : ℕ} → r ≡ ofChecked a .first → PassesCheck A claim letters r
@@ -50,5 +51,12 @@ module _ (A : Asked) (claim letters : List ℕ) where
         passed = record { answered = e; written = refl };
         short = λ h _. short-false (A .means) claim letters h (m .1 .0 refl);
       }
-      go checked.No m e = record { answer = checked.No; meets = m; passed = record { answered = e; written = refl }; short = λ _ z. omega arith }
-      go (checked.Refused r) m e = record { answer = checked.Refused r; meets = m; passed = record { answered = e; written = refl }; short = λ _ z. omega arith }
+      go checked.No m e = record {
+        answer = checked.No;
+        meets = m;
+        passed = record { answered = e; written = refl };
+        short =
+            λ _ z. omega arith;
+      }
+      go (checked.Refused r) m e =
+          record { answer = checked.Refused r; meets = m; passed = record { answered = e; written = refl }; short = λ _ z. omega arith }

@@ -3,7 +3,6 @@
 use Prim.Native.Nat.{ℕ}
 use mathlib.Core.Path.{refl}
 use mathlib.Core.Logic.{inl, inr}
-use mathlib.Core.List.{List, []}
 use native.Mathlib.Omega.{arith}
 use Rattle.refusals.specs.Outcomes.{Outcome, refused, answered}
 use Rattle.plan.specs.Asked.{Asked, refusalOf}
@@ -15,7 +14,9 @@ use Rattle.prepare.proofs.Answers.{small}
 use Rattle.predictor.specs.declared.Answer.the-variants.{Resolved}
 use Rattle.gawherino.specs.Promises.{claimOf}
 use Rattle.gawherino.specs.Theorems.{Number, value, refusal as refusal-number, Theorems}
-use Rattle.gawherino.proofs.Answering.{gives-number, asked-numbered, unread-number, reading-number, prepared-number, counted-number, checked-number, walked-number, judged-number, opened-small, fed-small, opened-number, fed-number, ended-number}
+use Rattle.gawherino.proofs.Answering.{gives-number, asked-numbered, unread-number, reading-number, prepared-number, counted-number}
+use Rattle.gawherino.proofs.Answering.{checked-number, walked-number, judged-number, opened-small, fed-small, opened-number}
+use Rattle.gawherino.proofs.Answering.{fed-number, ended-number}
 
 drawn : (A : Asked) → Proper A → {r : ℕ} → Draws A r → Number r
 drawn A P d = rw (d .is) (go (d .outcome) (d .looks-ahead))
@@ -28,10 +29,14 @@ drawn A P d = rw (d .is) (go (d .outcome) (d .looks-ahead))
 pub theorems : (r : ℕ) → Theorems r
 theorems r = record {
   reading = λ plan old counts. gives-number (asked-numbered (asked plan) (asked-proper plan)) (reading-number plan);
-  preparing = λ plan old table old′ letters old″ evidence. gives-number (asked-numbered (asked plan) (asked-proper plan)) (prepared-number (asked plan) (asked-proper plan) old table old′ letters);
-  counting = λ plan old letters old′ evidence. gives-number (asked-numbered (asked plan) (asked-proper plan)) (counted-number (asked plan) (asked-proper plan) old letters);
+  preparing = λ plan old table old′ letters old″ evidence.
+      gives-number (asked-numbered (asked plan) (asked-proper plan))
+      (prepared-number (asked plan) (asked-proper plan) old table old′ letters);
+  counting = λ plan old letters old′ evidence.
+      gives-number (asked-numbered (asked plan) (asked-proper plan)) (counted-number (asked plan) (asked-proper plan) old letters);
   drawing = λ plan. drawn (asked plan) (asked-proper plan);
-  checking = λ plan claim letters p. rw (p .passed .answered) (checked-number (asked plan) (asked-proper plan) (claimOf claim) letters (p .answer) (p .meets));
+  checking = λ plan claim letters p.
+      rw (p .passed .answered) (checked-number (asked plan) (asked-proper plan) (claimOf claim) letters (p .answer) (p .meets));
   walking = λ table word old sets old′ length. gives-number refl (walked-number table word old sets);
   judging = λ table state letter word old sets. gives-number refl (judged-number table state letter word);
   opening = λ table old bytes old′ position. gives-number refl (λ a. opened-number table old a bytes);

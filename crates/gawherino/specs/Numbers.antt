@@ -103,7 +103,8 @@ noRoom before = refusing (firstOf (before ++ short true))
 
 -- What a call gives that may have so many further values: with room for them the numbers of an answer that meets the promise of the
 -- call it stands for; else it is refused, and all that it is lent is kept.
-pub data PassesOn {A : Type 0} (numbers : A → Numbers) (room : ℕ) (before : List Check) (Meets : A → Type 0) (Kept : Type 0) (r : ℕ) (old more : List ℕ) : Type 0 where
+pub data PassesOn {A : Type 0} (numbers : A → Numbers) (room : ℕ) (before : List Check) (Meets : A → Type 0) (Kept : Type 0) (r : ℕ)
+    (old more : List ℕ) : Type 0 where
   answers : room ≤ length old → (a : A) → Meets a → Passed (numbers a) r old more → PassesOn numbers room before Meets Kept r old more
   refuses : length old < room → r ≡ noRoom before → more ≡ old → Kept → PassesOn numbers room before Meets Kept r old more
 

@@ -26,7 +26,8 @@ PassesPrepared A r old table old′ letters old″ evidence =
     PassesOn ofPrepared 6 (A .checks) (λ a. Prepares A a old table old′ letters) ((table ≡ old) × (letters ≡ old′)) r old″ evidence
 
 abbrev pub PassesCount : Asked → ℕ → List ℕ → List ℕ → List ℕ → List ℕ → Type 0
-PassesCount A r old letters old′ evidence = PassesOn ofPrepared 6 (A .checks) (λ a. CountsTo A a old letters) (letters ≡ old) r old′ evidence
+PassesCount A r old letters old′ evidence =
+    PassesOn ofPrepared 6 (A .checks) (λ a. CountsTo A a old letters) (letters ≡ old) r old′ evidence
 
 -- A claim in numbers, as evidence is given; what is missing is 0, so that fewer than six numbers claim an empty loop.
 abbrev pub claimOf : List ℕ → Evidence
@@ -53,7 +54,8 @@ PassesWalk table word r old sets old′ more =
     PassesOn ofWalked 1 (tableCheck table ∷ []) (λ a. Walks table word a old sets) (sets ≡ old) r old′ more
 
 abbrev pub PassesVerdict : List ℕ → ℕ → ℕ → List ℕ → ℕ → List ℕ → List ℕ → Type 0
-PassesVerdict table state letter word r old sets = PassesOn ofJudged 2 (tableCheck table ∷ []) (Judges table state letter word) Unit r old sets
+PassesVerdict table state letter word r old sets =
+    PassesOn ofJudged 2 (tableCheck table ∷ []) (Judges table state letter word) Unit r old sets
 
 abbrev pub PassesOpening : List ℕ → ℕ → List ℕ → List ℕ → List ℕ → List ℕ → Type 0
 PassesOpening table r old bytes old′ position =

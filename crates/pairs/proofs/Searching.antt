@@ -1,7 +1,7 @@
 -- The two searches: for a letter that leads two states on to a pair of the rows, and for two different states that are a pair of both.
 -- Assumes nothing.
-use mathlib.Core.Bool.{Bool, true, false, _&&_, false≢true}
-use mathlib.Core.Path.{_≡_, refl, sym, _∙_}
+use mathlib.Core.Bool.{Bool, true, false, _&&_, false≢true, and-assoc, and-self}
+use mathlib.Core.Path.{_≡_, sym, _∙_}
 use mathlib.Core.List.{List}
 use Prim.Native.Nat.{ℕ, _^_, _≤_, _<_}
 use native.Mathlib.Nat.{lt-of-le-of-lt}
@@ -61,13 +61,8 @@ module _ (n m : ℕ) (sets rows : List ℕ) (s t : ℕ) where
       false≢true (sym (f a ha) ∙ any-in n _ r hr (and-in _ _ p (any-in n _ u hu (and-in _ _ q (l .lives)))))
 
 -- no member of a set lives with a row of which none does among those that the row has
-again : (a b : Bool) → ((a && b) && b) ≡ (a && b)
-again true true = refl
-again true false = refl
-again false b = refl
-
 pub met-none : (n set row : ℕ) → any n (λ u. has (bitAnd set row) u && has row u) ≡ false → any n (λ u. has set u && has row u) ≡ false
-met-none n set row e = any-cong n _ _ (λ u _. rw (has-and set row u) (sym (again (has set u) (has row u)))) ∙ e
+met-none n set row e = any-cong n _ _ (λ u _. rw (has-and set row u, and-assoc, and-self)) ∙ e
 
 -- TWO STATES, a row at a time: `live & rival & mask(t)`
 

@@ -52,7 +52,8 @@ module _ (P : Plan) (states : P .n ≤ 64) {i set : ℕ} {off : Bool} (w : Start
   abbrev withStart : ℕ
   withStart = bitOr set (bitAnd (setOf 64 (single (P .start i))) (setOf 64 (λ t. ltb t (P .n))))
 
-  start-entered : (t : ℕ) → (ltb t (P .n) ≡ true) ⊎ (ltb t (P .n) ≡ false) → has withStart t ≡ (ltb t (P .n) && semiautomaton (startsTo (suc i) P) .initial t)
+  start-entered : (t : ℕ) → (ltb t (P .n) ≡ true) ⊎ (ltb t (P .n) ≡ false)
+      → has withStart t ≡ (ltb t (P .n) && semiautomaton (startsTo (suc i) P) .initial t)
   unfolding any
   start-entered t (inl e) =
       rw (has-or, w .set-is, has-setOf, has-and, has-setOf, has-setOf, e, lt-ltb t 64 (omega (arith, ltb-true t (P .n) e)), and-true)
@@ -62,13 +63,15 @@ module _ (P : Plan) (states : P .n ≤ 64) {i set : ℕ} {off : Bool} (w : Start
   unfolding any
   start-off = elim (decided (leb (P .n) (P .start i))) [
     | inl e ↦ rw (e, or-true, or-true)
-    | inr e ↦ rw (e, w .off-is, w .set-is, has-setOf, lt-ltb (P .start i) (P .n) (leb-false (P .n) (P .start i) e)) (regroup (startHigh (startsTo i P)) (twice i (λ i j. eqb (P .start i) (P .start j))) _)
+    | inr e ↦ rw (e, w .off-is, w .set-is, has-setOf, lt-ltb (P .start i) (P .n) (leb-false (P .n) (P .start i) e))
+        (regroup (startHigh (startsTo i P)) (twice i (λ i j. eqb (P .start i) (P .start j))) _)
   ]
     where
       regroup : (a b x : Bool) → (((a || b) || false) || x) ≡ ((a || false) || (b || x))
       regroup a b x = simp (or-false, or-assoc)
 
-  pub starts-next : {s one all : ℕ} {there : Bool} → s ≡ P .start i → one ≡ setOf 64 (single s) → all ≡ setOf 64 (λ t. ltb t (P .n)) → there ≡ has set s
+  pub starts-next : {s one all : ℕ} {there : Bool} → s ≡ P .start i → one ≡ setOf 64 (single s) → all ≡ setOf 64 (λ t. ltb t (P .n))
+      → there ≡ has set s
       → StartsEntered (startsTo (i + 1) P) (record { set = bitOr set (bitAnd one all); off = (off || leb (P .n) s) || there })
   starts-next e o a t =
       rw (o, a, t, e, add-one) (record { set-is = is-set (P .n) _ _ (λ t. start-entered t (decided (ltb t (P .n)))); off-is = start-off })
@@ -119,7 +122,8 @@ line-fits P l e =
     let (a, b) = or-none (leb (P .n) (l .from)) _ e in
     (leb-false _ _ a, leb-false _ _ b, leb-false _ _ c)
 
-module _ (P : Plan) (states : P .n ≤ 64) (letters : P .m ≤ 32) {i : ℕ} {sets : List ℕ} {off again : Bool} (w : LinesEntered (linesTo i P) sets (record { off = off; twice = again })) where
+module _ (P : Plan) (states : P .n ≤ 64) (letters : P .m ≤ 32) {i : ℕ} {sets : List ℕ} {off again : Bool}
+    (w : LinesEntered (linesTo i P) sets (record { off = off; twice = again })) where
   abbrev l : Line
   l = P .line i
 
@@ -155,7 +159,8 @@ module _ (P : Plan) (states : P .n ≤ 64) (letters : P .m ≤ 32) {i : ℕ} {se
 
     next-below : (j : ℕ) → j < P .n * P .m → getD (withLine P l sets) j 0 < 2 ^ P .n
     next-below j h = elim (ℕ-discrete j (linePlace P l)) [
-      | yes e ↦ rw (e, getD-set-same sets (linePlace P l) _ 0 inside, shl-one 64 (l .to) (place-in .1)) (or-lt (P .n) _ _ (w .below _ among) (pow-lt (fits .2)))
+      | yes e ↦ rw (e, getD-set-same sets (linePlace P l) _ 0 inside, shl-one 64 (l .to) (place-in .1))
+          (or-lt (P .n) _ _ (w .below _ among) (pow-lt (fits .2)))
       | no e ↦ rw (getD-set-other sets _ j _ 0 e) (w .below j h)
     ]
 
@@ -178,7 +183,8 @@ module _ (P : Plan) (states : P .n ≤ 64) (letters : P .m ≤ 32) {i : ℕ} {se
           rw (getD-set-other sets _ (place (P .m) q a) _ 0 e, w .edges q a t h g k, other, or-false)
     ]
 
-    pub lines-next : LinesEntered (linesTo (i + 1) P) (withLine P l sets) (record { off = off; twice = again || eqb (bitAnd (getD sets (linePlace P l) 0 / 2 ^ l .to) 1) 1 })
+    pub lines-next : LinesEntered (linesTo (i + 1) P) (withLine P l sets)
+        (record { off = off; twice = again || eqb (bitAnd (getD sets (linePlace P l) 0 / 2 ^ l .to) 1) 1 })
     unfolding any
     lines-next = rw add-one (record {
       size = length-set sets _ _ ∙ w .size;

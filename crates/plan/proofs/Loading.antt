@@ -46,7 +46,8 @@ initial-is {S} W s = elim (decided (S .initial s)) [
 ]
 
 module _ (P : Plan) (W : Within (semiautomaton P)) (states : P .n ≤ 64) (letters : P .m ≤ 32) where
-  pub holds : {sets : List ℕ} {s : Starts} {l : Lines} → StartsEntered P s → LinesEntered P sets l → Holds (semiautomaton P) (P .n) (P .m) (s .set) sets
+  pub holds : {sets : List ℕ} {s : Starts} {l : Lines} → StartsEntered P s → LinesEntered P sets l
+      → Holds (semiautomaton P) (P .n) (P .m) (s .set) sets
   holds {sets} s l = rw (s .set-is) (record {
     means = successors-are (semiautomaton P) W _ sets (initial-is W) λ q a t h g. edges q a t h g (decided (ltb t (P .n)));
     fit = record { states = states; letters = letters; room = rw (l .size) (room states letters); below = l .below };
@@ -92,4 +93,10 @@ module _ (plan : List ℕ) {h : Header} (is : h ≡ headerOf plan) where
     loads-plan y =
         let w = sym x-refusal ∙ y in
         let r = well-formed-range plan w in
-        rw is (w, holds (parsedBy (headerOf plan) plan) (well-formed-within plan w) (r .n-high) (r .m-high) (rw is at starts) (rw is at lines), refl, lines .size)
+        rw is (
+          w,
+          holds (parsedBy (headerOf plan) plan) (well-formed-within plan w) (r .n-high) (r .m-high)
+              (rw is at starts) (rw is at lines),
+          refl,
+          lines .size,
+        )

@@ -28,7 +28,8 @@ module _ (plan : List ℕ) where
       go true d e = (eqb-true (refusal plan) 0 d, cc)
       go false d e = let z : _≡_ {A = ℕ} 0 1 = cc in absurd (omega arith)
 
-  pub reading-counts : {v : PlanCounts} → answered v ≡ reading plan → WellFormed plan × (v .n ≡ headerOf plan .n) × (v .m ≡ headerOf plan .m)
+  pub reading-counts : {v : PlanCounts} → answered v ≡ reading plan
+      → WellFormed plan × (v .n ≡ headerOf plan .n) × (v .m ≡ headerOf plan .m)
   reading-counts e = let (w, is) = reading-well e in (w, ap (λ (c : PlanCounts). c .n) is, ap (λ (c : PlanCounts). c .m) is)
 
   -- and the reading of what is loaded

@@ -14,9 +14,10 @@ use Rattle.semiautomata.specs.Semiautomaton.{Within}
 use Rattle.refusals.specs.Checks.{within, firstOf}
 use Rattle.refusals.proofs.First.{Numbered, first-le, first-behind, first-before}
 use Rattle.plan.specs.declared.Header.{Header}
-use Rattle.plan.specs.Plan.{Plan, countOff, startHigh, startOff, lineOff, lineTwice}
+use Rattle.plan.specs.Plan.{countOff, startHigh, startOff, lineOff}
 use Rattle.plan.specs.Asked.{refusalOf, Sized}
-use Rattle.plan.specs.Bytes.{headerOf, lineWidth, parsed, meaning, placed, misplaced, headerChecks, partChecks, planChecks, asked, refusal, WellFormed}
+use Rattle.plan.specs.Bytes.{headerOf, lineWidth, parsed, meaning, placed, misplaced, headerChecks, partChecks, planChecks}
+use Rattle.plan.specs.Bytes.{asked, refusal, WellFormed}
 use Rattle.plan.specs.inner.Steps.{Sound}
 use Rattle.plan.proofs.Tests.{or-none}
 use Rattle.plan.proofs.Plan.{plan-within}
@@ -95,7 +96,9 @@ module _ (plan : List ℕ) where
   -- where 1 to 4 do not apply, 5 to 7 are what is left
   pub refused-parts : first ≡ 0 → firstOf (partChecks (parsed plan)) ≡ refusal plan
   unfolding refusalOf planChecks
-  refused-parts z = sym (first-behind 4 (headerChecks (length plan) (headerOf plan)) (partChecks (parsed plan)) refl z)
+  refused-parts z =
+      let h = headerChecks (length plan) (headerOf plan) in
+      sym (first-behind 4 h (partChecks (parsed plan)) refl z)
 
 -- WHERE NONE APPLIES
 

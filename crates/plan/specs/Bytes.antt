@@ -65,7 +65,8 @@ overlap at size at′ size′ = (ltb 0 size && ltb 0 size′) && (ltb at (at′ 
 
 abbrev pub misplaced : Header → Bool
 misplaced h =
-    not (placed (h .total) (h .starts) (h .p)) || (not (placed (h .total) (h .lines) (lineWidth * h .e)) || overlap (h .starts) (h .p) (h .lines) (lineWidth * h .e))
+    not (placed (h .total) (h .starts) (h .p))
+    || (not (placed (h .total) (h .lines) (lineWidth * h .e)) || overlap (h .starts) (h .p) (h .lines) (lineWidth * h .e))
 
 -- Refusals 1 to 4, in order, of so many bytes with this header.
 abbrev pub headerChecks : ℕ → Header → List Check
@@ -79,7 +80,10 @@ headerChecks size h =
 -- Refusals 5 to 7, in order.
 abbrev pub partChecks : Plan → List Check
 partChecks P =
-    record { number = 5; applies = startOff P } ∷ record { number = 6; applies = lineOff P } ∷ record { number = 7; applies = lineTwice P } ∷ []
+    record { number = 5; applies = startOff P }
+    ∷ record { number = 6; applies = lineOff P }
+    ∷ record { number = 7; applies = lineTwice P }
+    ∷ []
 
 -- Refusals 1 to 7, in order.
 unfoldable pub planChecks : List ℕ → List Check

@@ -32,7 +32,8 @@ pub record Small (k : ℕ) (r : Rec) : Type 0 where
   pub held-le : length (r .held) ≤ k
   pub few : k < 2 ^ 16
 
-pub encode-holds : (k : ℕ) (r : Rec) (bytes : List ℕ) → heldFrom + k ≤ length bytes → Small k r → Holds k (encode k r ++ drop (heldFrom + k) bytes) r
+pub encode-holds : (k : ℕ) (r : Rec) (bytes : List ℕ) → heldFrom + k ≤ length bytes → Small k r
+    → Holds k (encode k r ++ drop (heldFrom + k) bytes) r
 encode-holds k r bytes h s =
     let few : length (r .held) < 2 ^ 16 = omega (arith, s .held-le, s .few) in
     record {
@@ -42,7 +43,8 @@ encode-holds k r bytes h s =
     }
 
 -- what is written of a reply holds the record that is left, where a refusal leaves the record as it was
-pub written-holds : (k : ℕ) (bytes : List ℕ) (r next : Rec) (reply : Reply) → Holds k bytes r → Small k next → ((x : ℕ) → reply ≡ refused x → next ≡ r) → Holds k (written k bytes next reply) next
+pub written-holds : (k : ℕ) (bytes : List ℕ) (r next : Rec) (reply : Reply) → Holds k bytes r → Small k next
+    → ((x : ℕ) → reply ≡ refused x → next ≡ r) → Holds k (written k bytes next reply) next
 written-holds k bytes r next (refused x) h s keeps = rw (keeps x refl) h
 written-holds k bytes r next (resolved i x) h s keeps = encode-holds k next bytes (h .room) s
 written-holds k bytes r next nothing h s keeps = encode-holds k next bytes (h .room) s

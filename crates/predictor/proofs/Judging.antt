@@ -1,13 +1,13 @@
 -- The answer to a letter and to opening, test by test, and what it leaves of the bytes.
 -- Assumes nothing.
 use Prim.Native.Nat.{ℕ, suc, _+_, _-_, _≤_, _<_}
-use mathlib.Core.Bool.{Bool, true, false, not, cond, _&&_, true≢false, false≢true, and-true}
+use mathlib.Core.Bool.{Bool, true, false, cond, _&&_, true≢false, false≢true, and-true}
 use mathlib.Core.Path.{_≡_, refl, sym, _∙_, ap}
 use mathlib.Core.Logic.{_⊎_, inl, inr}
 use mathlib.Core.List.{List, [], _∷_, _++_}
 use native.Mathlib.Numerals.{add-one}
 use native.Mathlib.Omega.{arith}
-use lib.Dec.{eqb, ltb, leb}
+use lib.Dec.{eqb, ltb}
 use lib.ListN.{length, take, drop, take-append-drop}
 use lib.Seq.{take-length, take-append-le, drop-append-le, drop-nil}
 use borrow.Author.Tests.{lt-ltb, le-ltb, le-leb, lt-leb, eqb-true, eqb-false, leb-false, ltb-true, ltb-false, not-false}
@@ -42,13 +42,16 @@ use Rattle.predictor.proofs.Standing.{By, base-below, Standing}
 
 module _ (S : Semiautomaton) (X : ℕ → Bool) (u : List ℕ) (a : ℕ) where
   -- k letters follow it: the members of what is reached before it that can walk these
-  pub due-set : (i : ℕ) → i ≤ length u → {here out : ℕ} → here ≡ setOf (S .n) (reach S X (take i u)) → out ≡ setOf (S .n) (survivors S (has here) (drop i u ++ (a ∷ [])))
+  pub due-set : (i : ℕ) → i ≤ length u → {here out : ℕ} → here ≡ setOf (S .n) (reach S X (take i u))
+      → out ≡ setOf (S .n) (survivors S (has here) (drop i u ++ (a ∷ [])))
       → out ≡ setOf (S .n) (possible S X (u ++ (a ∷ [])) i)
   unfolding possible
-  due-set i h e d = d ∙ setOf-cong (S .n) _ _ (λ t g. rw (take-append-le i u (a ∷ []) h, drop-append-le i u (a ∷ []) h, e, has-setOf, lt-ltb t (S .n) g))
+  due-set i h e d = d ∙ setOf-cong (S .n) _ _
+      (λ t g. rw (take-append-le i u (a ∷ []) h, drop-append-le i u (a ∷ []) h, e, has-setOf, lt-ltb t (S .n) g))
 
   -- the only state that is reached before it can walk these, where some state can walk all letters
-  pub due-sole : Within S → ((s : ℕ) → X s ≡ true → s < S .n) → (i : ℕ) → i ≤ length u → {here next : ℕ} → here ≡ setOf (S .n) (reach S X (take i u)) → size (S .n) (has here) ≡ 1
+  pub due-sole : Within S → ((s : ℕ) → X s ≡ true → s < S .n) → (i : ℕ) → i ≤ length u → {here next : ℕ}
+      → here ≡ setOf (S .n) (reach S X (take i u)) → size (S .n) (has here) ≡ 1
       → next ≡ setOf (S .n) (reach S X (u ++ (a ∷ []))) → ¬ (next ≡ 0) → here ≡ setOf (S .n) (possible S X (u ++ (a ∷ [])) i)
   unfolding possible
   due-sole W below i h {here} e one d z =
@@ -59,14 +62,16 @@ module _ (S : Semiautomaton) (X : ℕ → Bool) (u : List ℕ) (a : ℕ) where
       let (x, from, q) = reach-out S X (take i w) s r in
       let hs = path-lt S W (take i w) x s (below x from) q in
       let (y, sole) = size-sole (S .n) (has here) one in
-      let is : (v : ℕ) → v < S .n → has here v ≡ reach S X (take i w) v = λ v g. rw (e, has-setOf, lt-ltb v (S .n) g, take-append-le i u (a ∷ []) h) in
+      let is : (v : ℕ) → v < S .n → has here v ≡ reach S X (take i w) v =
+      λ v g. rw (e, has-setOf, lt-ltb v (S .n) g, take-append-le i u (a ∷ []) h) in
       let same : s ≡ y = sole .only s hs (is s hs ∙ r) in
       is-setOf (S .n) _ here (rw e (setOf-lt (S .n) _)) λ v g. same-test _ _
       (λ f. let v-is : v ≡ s = sole .only v g f ∙ sym same in and-in _ _ (sym (is v g) ∙ f) (rw v-is (spells-in S W (drop i w) s (t, p))))
       (λ f. is v g ∙ and-out (reach S X (take i w) v) _ f .0)
 
   -- none follows it: what all letters lead to
-  pub due-last : {next : ℕ} → next ≡ setOf (S .n) (reach S X (u ++ (a ∷ []))) → next ≡ setOf (S .n) (possible S X (u ++ (a ∷ [])) (suc (length u)))
+  pub due-last : {next : ℕ} → next ≡ setOf (S .n) (reach S X (u ++ (a ∷ [])))
+      → next ≡ setOf (S .n) (possible S X (u ++ (a ∷ [])) (suc (length u)))
   due-last e = e ∙ setOf-cong (S .n) _ _ (λ t _. rw (take-length (u ++ (a ∷ [])), length-snoc u a) at (possible-last S X (u ++ (a ∷ [])) t))
 
 -- one member of a set below n, among 64
@@ -82,17 +87,20 @@ size-wide n p h =
     sym (ones-size 64 (setOf n p) (fits 64 (setOf n p) (λ t g. has-high n (setOf n p) t (setOf-lt n p) (omega arith))))
     ∙ ones-size n (setOf n p) (setOf-lt n p) ∙ size-cong n _ _ (λ t g. rw (has-setOf, lt-ltb t n g))
 
-pub resolving-is : (S : Semiautomaton) → S .n ≤ 64 → (X : ℕ → Bool) (w : List ℕ) (i position : ℕ) {set : ℕ} → set ≡ setOf (S .n) (possible S X w i)
+pub resolving-is : (S : Semiautomaton) → S .n ≤ 64 → (X : ℕ → Bool) (w : List ℕ) (i position : ℕ) {set : ℕ}
+    → set ≡ setOf (S .n) (possible S X w i)
     → resolving position set ≡ resolve position (soleAt S X w i)
 unfolding resolving soleAt
 resolving-is S small X w i position {set} e = go (decided (eqb (size (S .n) (possible S X w i)) 1))
   where
-    go : (eqb (size (S .n) (possible S X w i)) 1 ≡ true) ⊎ (eqb (size (S .n) (possible S X w i)) 1 ≡ false) → resolving position set ≡ resolve position (soleAt S X w i)
+    go : (eqb (size (S .n) (possible S X w i)) 1 ≡ true) ⊎ (eqb (size (S .n) (possible S X w i)) 1 ≡ false)
+        → resolving position set ≡ resolve position (soleAt S X w i)
     go (inr q) = rw (resolving, e, size-wide (S .n) (possible S X w i) small, soleAt, q)
     go (inl q) =
         let (x, s) = size-sole (S .n) (possible S X w i) (eqb-true _ _ q) in
         let v = sole-wide (S .n) (possible S X w i) small x s in
-        rw (resolving, e, least-sole 64 _ x v, size-wide (S .n) (possible S X w i) small, soleAt, q, least-sole (S .n) (possible S X w i) x s)
+        let at = least-sole (S .n) (possible S X w i) x s in
+        rw (resolving, e, least-sole 64 _ x v, size-wide (S .n) (possible S X w i) small, soleAt, q, at)
 
 -- A LETTER, where neither 8 nor 9 applies
 
@@ -102,19 +110,24 @@ unfolding judged
 judged-10 S k bytes a e = rw e
 
 -- what the held letters and the new one lead to
-pub reached : {S : Semiautomaton} {k here : ℕ} {bytes : List ℕ} → Standing S k bytes here → (a : ℕ) {next : ℕ} → next ≡ setOf (S .n) (step S (has here) a)
+pub reached : {S : Semiautomaton} {k here : ℕ} {bytes : List ℕ} → Standing S k bytes here → (a : ℕ) {next : ℕ}
+    → next ≡ setOf (S .n) (step S (has here) a)
     → next ≡ setOf (S .n) (reach S (base S k (decode bytes)) (decode bytes .held ++ (a ∷ [])))
 reached {S} {k} {bytes = bytes} s a e =
     e
-    ∙ setOf-cong (S .n) _ _ (λ t _. ap (λ (x : ℕ). step S (has x) a t) (s .is) ∙ step-members S (reach S (base S k (decode bytes)) (decode bytes .held)) a t)
+    ∙ setOf-cong (S .n) _ _ (λ t _. ap (λ (x : ℕ). step S (has x) a t) (s .is)
+    ∙ step-members S (reach S (base S k (decode bytes)) (decode bytes .held)) a t)
     ∙ ap (setOf (S .n)) (sym (reach-append S (base S k (decode bytes)) (decode bytes .held) (a ∷ [])))
 
 -- the same from the base as a number, whatever the initial states are
-pub reached-from : (n m starts others : ℕ) (sets : List ℕ) (from a : ℕ) {k here next : ℕ} {bytes part : List ℕ} → Standing (successors n m starts sets) k bytes here
-    → has from ≡ base (successors n m starts sets) k (decode bytes) → part ≡ decode bytes .held → next ≡ setOf n (step (successors n m starts sets) (has here) a)
+pub reached-from : (n m starts others : ℕ) (sets : List ℕ) (from a : ℕ) {k here next : ℕ} {bytes part : List ℕ}
+    → Standing (successors n m starts sets) k bytes here
+    → has from ≡ base (successors n m starts sets) k (decode bytes) → part ≡ decode bytes .held
+    → next ≡ setOf n (step (successors n m starts sets) (has here) a)
     → next ≡ setOf n (reach (successors n m others sets) (has from) (part ++ (a ∷ [])))
 reached-from n m starts others sets from a {part = part} s is held e =
-    rw (reach-bare n m others sets (has from) (part ++ (a ∷ [])), ← reach-bare n m starts sets (has from) (part ++ (a ∷ [])), is, held) (reached s a e)
+    rw (reach-bare n m others sets (has from) (part ++ (a ∷ [])), ← reach-bare n m starts sets (has from) (part ++ (a ∷ [])), is, held)
+    (reached s a e)
 
 module _ {S : Semiautomaton} {k here starts : ℕ} {bytes : List ℕ} (s : Standing S k bytes here) (b : By S starts) (a : ℕ) where
   pub judged-11 : limit ≤ decode bytes .fed → refused 11 ≡ judged S k bytes a .reply
@@ -127,31 +140,42 @@ module _ {S : Semiautomaton} {k here starts : ℕ} {bytes : List ℕ} (s : Stand
     judged-12 g = rw (s .tidied, s .is-sound, lt-leb limit (decode bytes .fed) h, le-leb (S .m) a g)
 
     module _ (g : a < S .m) {next : ℕ} (step-is : next ≡ setOf (S .n) (step S (has here) a)) where
-      walks : walkable S (base S k (decode bytes)) (decode bytes .held ++ (a ∷ [])) ≡ any (S .n) (reach S (base S k (decode bytes)) (decode bytes .held ++ (a ∷ [])))
-      walks = walkable-reach S (b .within) (base S k (decode bytes)) (base-below b k (decode bytes) (s .keeps .last-lt)) (decode bytes .held ++ (a ∷ []))
+      walks : walkable S (base S k (decode bytes)) (decode bytes .held ++ (a ∷ [])) ≡ any (S .n)
+          (reach S (base S k (decode bytes)) (decode bytes .held ++ (a ∷ [])))
+      walks = walkable-reach S (b .within) (base S k (decode bytes)) (base-below b k (decode bytes) (s .keeps .last-lt))
+          (decode bytes .held ++ (a ∷ []))
 
       pub judged-13 : next ≡ 0 → refused 13 ≡ judged S k bytes a .reply
       unfolding judged
-      judged-13 z = rw (s .tidied, s .is-sound, lt-leb limit (decode bytes .fed) h, lt-leb (S .m) a g, walks ∙ none-of (S .n) _ (reached s a step-is) z)
+      judged-13 z =
+          let none = walks ∙ none-of (S .n) _ (reached s a step-is) z in
+          rw (s .tidied, s .is-sound, lt-leb limit (decode bytes .fed) h, lt-leb (S .m) a g, none)
 
       module _ (some : ¬ (next ≡ 0)) where
-        settles : judged S k bytes a .reply ≡ settle S k (base S k (decode bytes)) (suc (decode bytes .fed)) (decode bytes .held ++ (a ∷ []))
+        settles : judged S k bytes a .reply ≡ settle S k (base S k (decode bytes)) (suc (decode bytes .fed))
+            (decode bytes .held ++ (a ∷ []))
         unfolding judged
-        settles = rw (s .tidied, s .is-sound, lt-leb limit (decode bytes .fed) h, lt-leb (S .m) a g, walks ∙ some-of (S .n) _ (reached s a step-is) some)
+        settles =
+            let on = walks ∙ some-of (S .n) _ (reached s a step-is) some in
+            rw (s .tidied, s .is-sound, lt-leb limit (decode bytes .fed) h, lt-leb (S .m) a g, on)
 
         pub judged-nothing : suc (decode bytes .fed) < k → nothing ≡ judged S k bytes a .reply
         unfolding settle
         judged-nothing l = rw (settles, settle, lt-ltb (suc (decode bytes .fed)) k l)
 
-        pub judged-resolved : k ≤ suc (decode bytes .fed) → (from : ℕ) → has from ≡ base S k (decode bytes) → {set fed : ℕ} {part : List ℕ} → part ≡ decode bytes .held
-            → set ≡ setOf (S .n) (possible S (has from) (part ++ (a ∷ [])) (suc (length part) - k)) → fed ≡ decode bytes .fed → (reply : Reply) → reply ≡ resolving (fed + 1 - k) set
+        pub judged-resolved : k ≤ suc (decode bytes .fed) → (from : ℕ) → has from ≡ base S k (decode bytes)
+            → {set fed : ℕ} {part : List ℕ} → part ≡ decode bytes .held
+            → set ≡ setOf (S .n) (possible S (has from) (part ++ (a ∷ [])) (suc (length part) - k)) → fed ≡ decode bytes .fed
+            → (reply : Reply) → reply ≡ resolving (fed + 1 - k) set
             → reply ≡ judged S k bytes a .reply
         unfolding settle
         judged-resolved l from is {set} {fed} {part} q e f reply d =
-            let same : set ≡ setOf (S .n) (possible S (base S k (decode bytes)) (decode bytes .held ++ (a ∷ [])) (length (decode bytes .held ++ (a ∷ [])) - k)) =
+            let same : set ≡ setOf (S .n)
+            (possible S (base S k (decode bytes)) (decode bytes .held ++ (a ∷ [])) (length (decode bytes .held ++ (a ∷ [])) - k)) =
             rw (length-snoc (decode bytes .held) a) (rw (is, q) at e) in
             d ∙ rw (f, add-one (decode bytes .fed))
-            (resolving-is S (b .states) (base S k (decode bytes)) (decode bytes .held ++ (a ∷ [])) (length (decode bytes .held ++ (a ∷ [])) - k) (suc (decode bytes .fed) - k) same
+            (resolving-is S (b .states) (base S k (decode bytes)) (decode bytes .held ++ (a ∷ []))
+            (length (decode bytes .held ++ (a ∷ [])) - k) (suc (decode bytes .fed) - k) same
             ∙ rw (settles, settle, le-ltb (suc (decode bytes .fed)) k l))
 
 -- WHAT IS LEFT
@@ -200,7 +224,8 @@ fed-kept k bytes a (refused number) e = refl
 fed-kept k bytes a (resolved i x) e = absurd (false≢true e)
 fed-kept k bytes a nothing e = absurd (false≢true e)
 
-pub fed-taken : (k : ℕ) (bytes : List ℕ) (a : ℕ) (reply : Reply) → isRefusal reply ≡ false → takenInto k bytes a (lastAfter reply (decode bytes .last)) ≡ fedInto k bytes a reply
+pub fed-taken : (k : ℕ) (bytes : List ℕ) (a : ℕ) (reply : Reply) → isRefusal reply ≡ false
+    → takenInto k bytes a (lastAfter reply (decode bytes .last)) ≡ fedInto k bytes a reply
 unfolding fedInto takenInto
 fed-taken k bytes a (refused number) e = absurd (true≢false e)
 fed-taken k bytes a (resolved i x) e = refl
@@ -242,7 +267,8 @@ module _ (S : Semiautomaton) (k : ℕ) where
 
         go : (eqb starts 0 ≡ true) ⊎ (eqb starts 0 ≡ false) → (ltb 0 k ≡ true) ⊎ (ltb 0 k ≡ false) → opening k starts ≡ opened S k .reply
         go (inl e) l =
-            let none : any (S .n) (S .initial) ≡ false = rw (b .initial) (any-none (S .n) (has starts) (λ t _. rw (eqb-true starts 0 e) (has-empty t))) in
+            let none : any (S .n) (S .initial) ≡ false =
+            rw (b .initial) (any-none (S .n) (has starts) (λ t _. rw (eqb-true starts 0 e) (has-empty t))) in
             rw (opening, e, opened, none)
         go (inr e) (inl l) = rw (opening, e, l, opened, some e, settle)
         go (inr e) (inr l) =

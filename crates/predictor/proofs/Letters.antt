@@ -29,7 +29,9 @@ module _ (S : Semiautomaton) (W : Within S) where
   reach-letters X w t e = let (s, _, p) = reach-out S X w t e in record { below = path-letters w s t p }
 
 -- a word with a letter off leads nowhere
-pub stray-none : {n m : ℕ} {sets : List ℕ} → Fit n m sets → (set : ℕ) (w : List ℕ) → letterOff m w ≡ true → (starts : ℕ) → 0 ≡ setOf n (reach (successors n m starts sets) (has set) w)
+pub stray-none : {n m : ℕ} {sets : List ℕ} → Fit n m sets → (set : ℕ) (w : List ℕ) → letterOff m w ≡ true → (starts : ℕ)
+    → 0 ≡ setOf n (reach (successors n m starts sets) (has set) w)
 stray-none {n} {m} {sets} f set w e starts =
     rw (reach-bare n m starts sets (has set) w)
-    (is-setOf n _ 0 (pow-pos n) (λ t _. has-empty t ∙ sym (not-so _ (λ d. letters-stray m w e (reach-letters (bare n m sets) (bare-within f) (has set) w t d)))))
+    (is-setOf n _ 0 (pow-pos n)
+    (λ t _. has-empty t ∙ sym (not-so _ (λ d. letters-stray m w e (reach-letters (bare n m sets) (bare-within f) (has set) w t d)))))

@@ -105,18 +105,22 @@ module _ {S : Semiautomaton} {starts : ℕ} (b : By S starts) (k : ℕ) (r : Rec
 
 -- THE HELD LETTERS
 
-pub held-length : (k : ℕ) (bytes : List ℕ) → heldFrom + k ≤ length bytes → tidy k bytes ≡ true → length (take (heldCount bytes) (drop heldFrom bytes)) ≡ heldCount bytes
-held-length k bytes room t = let c = tidy-out k bytes t .count in length-take-le (heldCount bytes) (drop heldFrom bytes) (rw length-drop (omega arith))
+pub held-length : (k : ℕ) (bytes : List ℕ) → heldFrom + k ≤ length bytes → tidy k bytes ≡ true
+    → length (take (heldCount bytes) (drop heldFrom bytes)) ≡ heldCount bytes
+held-length k bytes room t = let c = tidy-out k bytes t .count in
+    length-take-le (heldCount bytes) (drop heldFrom bytes) (rw length-drop (omega arith))
 
 module _ (S : Semiautomaton) (k : ℕ) (bytes : List ℕ) (room : heldFrom + k ≤ length bytes) where
-  pub rules-are : tidy k bytes ≡ true → every (rules S k (decode bytes)) ≡ regular (S .n) k (decode bytes .fed) (decode bytes .last) (heldCount bytes)
+  pub rules-are : tidy k bytes ≡ true
+      → every (rules S k (decode bytes)) ≡ regular (S .n) k (decode bytes .fed) (decode bytes .last) (heldCount bytes)
   rules-are t = rw (held-length k bytes room t)
 
   pub standing-untidy : tidy k bytes ≡ false → 0 ≡ standing S k bytes
   unfolding standing
   standing-untidy e = rw e
 
-  pub standing-against : tidy k bytes ≡ true → regular (S .n) k (decode bytes .fed) (decode bytes .last) (heldCount bytes) ≡ false → 0 ≡ standing S k bytes
+  pub standing-against : tidy k bytes ≡ true → regular (S .n) k (decode bytes .fed) (decode bytes .last) (heldCount bytes) ≡ false
+      → 0 ≡ standing S k bytes
   unfolding standing
   standing-against t e = rw (t, rules-are t ∙ e)
 
@@ -127,7 +131,8 @@ module _ (S : Semiautomaton) (k : ℕ) (bytes : List ℕ) (room : heldFrom + k �
 
   module _ {starts : ℕ} (b : By S starts) where
     pub standing-walked : tidy k bytes ≡ true → regular (S .n) k (decode bytes .fed) (decode bytes .last) (heldCount bytes) ≡ true
-        → {from fed r : ℕ} {part : List ℕ} → from ≡ baseSet k starts fed (decode bytes .last) → fed ≡ decode bytes .fed → part ≡ decode bytes .held
+        → {from fed r : ℕ} {part : List ℕ} → from ≡ baseSet k starts fed (decode bytes .last) → fed ≡ decode bytes .fed
+        → part ≡ decode bytes .held
         → r ≡ setOf (S .n) (reach S (has from) part) → r ≡ standing S k bytes
     standing-walked t e d f q o = o ∙ rw (q, from-is b k (decode bytes) (keeps-in _ _ _ _ _ e .last-lt) d f) (sym (standing-is t e))
 
@@ -141,13 +146,16 @@ pub record Standing (S : Semiautomaton) (k : ℕ) (bytes : List ℕ) (here : ℕ
   pub is : here ≡ setOf (S .n) (reach S (base S k (decode bytes)) (decode bytes .held))
   pub some : any (S .n) (reach S (base S k (decode bytes)) (decode bytes .held)) ≡ true
 
-module _ {S : Semiautomaton} {starts : ℕ} (b : By S starts) (k : ℕ) (bytes : List ℕ) (room : heldFrom + k ≤ length bytes) {here : ℕ} (at : here ≡ standing S k bytes) where
+module _ {S : Semiautomaton} {starts : ℕ} (b : By S starts) (k : ℕ) (bytes : List ℕ) (room : heldFrom + k ≤ length bytes) {here : ℕ}
+    (at : here ≡ standing S k bytes) where
   passes : Bool
   passes = regular (S .n) k (decode bytes .fed) (decode bytes .last) (heldCount bytes)
 
-  walks : passes ≡ true → walkable S (base S k (decode bytes)) (decode bytes .held) ≡ any (S .n) (reach S (base S k (decode bytes)) (decode bytes .held))
+  walks : passes ≡ true → walkable S (base S k (decode bytes)) (decode bytes .held) ≡ any (S .n)
+      (reach S (base S k (decode bytes)) (decode bytes .held))
   unfolding passes
-  walks e = walkable-reach S (b .within) (base S k (decode bytes)) (base-below b k (decode bytes) (keeps-in _ _ _ _ _ e .last-lt)) (decode bytes .held)
+  walks e = walkable-reach S (b .within) (base S k (decode bytes)) (base-below b k (decode bytes) (keeps-in _ _ _ _ _ e .last-lt))
+      (decode bytes .held)
 
   pub standing-some : ¬ (here ≡ 0) → Standing S k bytes here
   unfolding sound passes
@@ -174,7 +182,9 @@ module _ {S : Semiautomaton} {starts : ℕ} (b : By S starts) (k : ℕ) (bytes :
   unfolding sound passes
   standing-none h = go (decided (tidy k bytes)) (decided passes)
     where
-      go : (tidy k bytes ≡ true) ⊎ (tidy k bytes ≡ false) → (passes ≡ true) ⊎ (passes ≡ false) → (tidy k bytes && sound S k (decode bytes)) ≡ false
+      go : (tidy k bytes ≡ true) ⊎ (tidy k bytes ≡ false) → (passes ≡ true) ⊎ (passes ≡ false)
+          → (tidy k bytes && sound S k (decode bytes)) ≡ false
       go (inr t) e = rw t
       go (inl t) (inr e) = rw (t, sound, rules-are S k bytes room t ∙ e)
-      go (inl t) (inl e) = rw (t, sound, rules-are S k bytes room t ∙ e) (walks e ∙ none-of (S .n) _ (at ∙ standing-is S k bytes room t e) h)
+      go (inl t) (inl e) = rw (t, sound, rules-are S k bytes room t ∙ e)
+          (walks e ∙ none-of (S .n) _ (at ∙ standing-is S k bytes room t e) h)

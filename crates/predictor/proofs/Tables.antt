@@ -1,19 +1,18 @@
 -- What opening and a letter fed give, test by test; the head of their table is at hand.
 -- Assumes nothing.
-use Prim.Native.Nat.{ℕ, suc, _+_, _≤_, _<_}
+use Prim.Native.Nat.{ℕ, _+_, _≤_, _<_}
 use mathlib.Core.Bool.{Bool, true, false, cond}
 use mathlib.Core.Path.{_≡_, refl, sym, _∙_, ap, subst}
-use mathlib.Core.List.{List, [], _∷_, _++_}
-use native.Mathlib.Omega.{arith}
+use mathlib.Core.List.{List, [], _∷_}
 use lib.Dec.{ltb}
 use lib.ListN.{length}
 use borrow.Author.Tests.{lt-ltb, le-ltb}
 use Rattle.semiautomata.specs.Semiautomaton.{Semiautomaton}
 use Rattle.streaming.specs.Calls.{refused, Result, checked}
 use Rattle.refusals.specs.Checks.{Check}
-use Rattle.streaming.specs.Streaming.{Rec, opened, openChecks, unopened, settled, feed, feedChecks, settledBy}
+use Rattle.streaming.specs.Streaming.{Rec, opened, openChecks, unopened, feed, feedChecks}
 use Rattle.table.specs.declared.Head.{Head}
-use Rattle.table.specs.Table.{lookaheadOf, initialOf, tableMeaning, unfit}
+use Rattle.table.specs.Table.{lookaheadOf, tableMeaning, unfit}
 use Rattle.table.proofs.Heads.{over, Headed}
 use Rattle.records.specs.Bytes.{heldFrom, decode, tidy}
 use Rattle.predictor.specs.declared.Answer.{Answer}
@@ -49,7 +48,8 @@ module _ (table bytes : List ℕ) where
   module _ (f : unfit table ≡ false) (room : heldFrom + lookaheadOf table ≤ length bytes) where
     pub opened-on : openedOn table bytes ≡ onto (lookaheadOf table) bytes (opened (tableMeaning table) (lookaheadOf table))
     unfolding openedOn opened
-    opened-on = rw (f, le-ltb (length bytes) (heldFrom + lookaheadOf table) room) (onto-checked _ bytes (openChecks (tableMeaning table)) unopened _)
+    opened-on = rw (f, le-ltb (length bytes) (heldFrom + lookaheadOf table) room)
+        (onto-checked _ bytes (openChecks (tableMeaning table)) unopened _)
 
     pub judged-on : (a : ℕ) → fedOn table bytes a ≡ judged (tableMeaning table) (lookaheadOf table) bytes a
     unfolding fedOn judged
@@ -75,7 +75,8 @@ module _ (table bytes : List ℕ) where
     feed-9 a e = rw (h .sound, short e) (refl, refl)
 
     module _ (room : heldFrom + head .k ≤ length bytes) (answer : Answer) {left : List ℕ} where
-      pub open-on : said answer ≡ opening (head .k) (head .starts) → left ≡ openedInto (head .k) bytes (said answer) → Opens table bytes answer left
+      pub open-on : said answer ≡ opening (head .k) (head .starts) → left ≡ openedInto (head .k) bytes (said answer)
+          → Opens table bytes answer left
       open-on e d =
           let S = tableMeaning table in
           let k = lookaheadOf table in

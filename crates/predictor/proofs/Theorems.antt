@@ -10,16 +10,14 @@ use Rattle.bitset.proofs.Tests.{and-out}
 use Rattle.semiautomata.specs.Semiautomaton.{Semiautomaton}
 use Rattle.streaming.specs.Calls.{Result, refused, checked}
 use Rattle.refusals.specs.Checks.{Check, firstOf}
-use Rattle.streaming.specs.Streaming.{Rec, unopened, openChecks, opened, feedChecks, feed, settled, settledBy, Undecided, UndecidedBy}
+use Rattle.streaming.specs.Streaming.{Rec, unopened, openChecks, opened, feedChecks, feed, Undecided, UndecidedBy}
 use Rattle.streaming.proofs.Calls.{lacks, passed-done, behind}
 use Rattle.refusals.proofs.First.{Numbered, Passed, first-passed, passed-first}
 use Rattle.streaming.proofs.Streaming.{opening-14, feeding-14}
 use Rattle.table.specs.Table.{lookaheadOf, tableMeaning}
 use Rattle.table.proofs.Fitness.{fitting}
 use Rattle.records.specs.Bytes.{decode, tidy}
-use Rattle.predictor.specs.declared.Answer.{Answer}
-use Rattle.predictor.specs.Replies.{said}
-use Rattle.predictor.specs.Calls.{openingChecks, letterChecks, onto, openedOn, fedOn, Opens, Feeds}
+use Rattle.predictor.specs.Calls.{openingChecks, letterChecks, onto, openedOn, fedOn}
 use Rattle.predictor.specs.Theorems.{Theorems}
 
 -- 14 of bytes, where what passes their checks passes the record's
@@ -55,7 +53,11 @@ module _ (table bytes : List ℕ) where
   unfolding fedOn feed
   feeding a =
       through (letterChecks table bytes a) (feedChecks S k (decode bytes) a) refl refl k bytes (decode bytes) _
-      (λ (fit, (_, (b, p))). ((ap not (and-out (tidy k bytes) _ (not-false _ b) .1), p), feeding-14 S (fitting table fit .within) k (decode bytes) a))
+      (λ (fit, (_, (b, p))). (
+        (ap not (and-out (tidy k bytes) _ (not-false _ b) .1), p),
+        feeding-14 S (fitting table fit .within) k
+            (decode bytes) a,
+      ))
 
   pub theorems : Theorems table bytes
   theorems = record {

@@ -1,19 +1,19 @@
 // Walks letter by letter (document 01, Walks): a record of bytes that is opened, fed and finished on a prepared table.
 // A call is judged and decided first, by what it reads; only then is the record written, and a refused call writes nothing.
 ghost use mathlib.Core.Path.{_≡_};
-ghost use mathlib.Core.List.{[], _∷_, _++_};
+ghost use mathlib.Core.List.{_++_};
 ghost use Prim.Native.Nat.{ℕ, suc, _+_, _-_, _^_, _≤_, _<_};
 ghost use lib.ListN.{length, take, drop};
 ghost use Rattle.bitset.specs.Numbers.{has, setOf};
-ghost use Rattle.semiautomata.specs.Walks.{reach, possible};
+ghost use Rattle.semiautomata.specs.Walks.{reach};
 ghost use Rattle.streaming.specs.PlainWalk.{limit};
 ghost use Rattle.semiautomata.specs.Successors.{successors, Fit};
-ghost use Rattle.walks.specs.Walking.{Letters};
 ghost use Rattle.table.specs.Table.{maxLookahead};
 ghost use Rattle.records.specs.Bytes.{heldFrom};
 ghost use Rattle.predictor.specs.Replies.{said, isRefusal};
 ghost use Rattle.predictor.specs.Calls.{Opens, Feeds, Ends};
-ghost use Rattle.predictor.specs.inner.Parts.{baseSet, standing, resolving, judged, opening, openSets, lastAfter, fedInto, openedInto, Ready};
+ghost use Rattle.predictor.specs.inner.Parts.{baseSet, standing, resolving, judged, opening, lastAfter, fedInto, openedInto};
+ghost use Rattle.predictor.specs.inner.Parts.{Ready, ReadOn, dueAfter, Endable, ListsOpen};
 use records::HELD_FROM;
 use table::SETS_FROM;
 
@@ -89,8 +89,8 @@ fn due(
     letter: usize,
     next: u64,
 ) -> u64
-    requires { ⌜ Fit n m (now sets) × (base < 2 ^ n) × Letters m (now held) × (letter < m) × (k ≤ suc (length (now held))) × ¬ (next ≡ 0) × ((starts : ℕ) → next ≡ setOf n (reach (successors n m starts (now sets)) (has base) (now held ++ (letter ∷ [])))) ⌝ }
-    ensures { λ r. ⌜ ((starts : ℕ) → r ≡ setOf n (possible (successors n m starts (now (sets .entry))) (has base) (now (held .entry) ++ (letter ∷ [])) (suc (length (now (held .entry))) - k))) ⌝ }
+    requires { ⌜ Fit n m (now sets) × (base < 2 ^ n) × (k ≤ suc (length (now held))) × ReadOn n m (now sets) base (now held) letter next ⌝ }
+    ensures { λ r. ⌜ ((starts : ℕ) → r ≡ dueAfter (successors n m starts (now (sets .entry))) k base (now (held .entry)) letter) ⌝ }
 {
     if k == 0 {
         return next;
@@ -242,8 +242,8 @@ fn list_open(
     rec: &[u8],
     out: &mut [u64],
 ) -> usize
-    requires { ⌜ Fit n m (now sets) × (starts < 2 ^ n) × (heldFrom + k ≤ length (now rec)) × (k ≤ maxLookahead) × (k ≤ length (now out)) × ¬ (standing (successors n m starts (now sets)) k (now rec) ≡ 0) ⌝ }
-    ensures { λ r. ⌜ (r ≡ length (openSets (successors n m starts (now (sets .entry))) k (now (rec .entry)))) × (now (out .exit) ≡ openSets (successors n m starts (now (sets .entry))) k (now (rec .entry)) ++ drop (length (openSets (successors n m starts (now (sets .entry))) k (now (rec .entry)))) (now (out .entry))) ⌝ }
+    requires { ⌜ Fit n m (now sets) × (starts < 2 ^ n) × Endable (successors n m starts (now sets)) k (now rec) (now out) ⌝ }
+    ensures { λ r. ⌜ ListsOpen (successors n m starts (now (sets .entry))) k (now (rec .entry)) r (now (out .entry)) (now (out .exit)) ⌝ }
 {
     let held = records::held_of(rec);
     let base = base_of(k, starts, records::fed_of(rec), rec[4]);

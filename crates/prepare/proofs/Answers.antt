@@ -1,13 +1,12 @@
 -- From the look-ahead of loaded sets to what preparing and the count call promise of the numbers that hold them, and of what is asked.
 -- Assumes nothing.
-use Prim.Native.Nat.{ℕ, suc, _+_, _-_, _*_, _≤_}
+use Prim.Native.Nat.{ℕ, _-_, _*_, _≤_}
 use native.Mathlib.Nat.{mul-le-mul-left}
-use mathlib.Core.Path.{_≡_, refl, _∙_, ap, subst}
+use mathlib.Core.Path.{_≡_, refl, subst}
 use mathlib.Core.Bool.{Bool, _||_}
 use mathlib.Core.List.{List}
 use native.Mathlib.Omega.{arith}
-use lib.ListN.{length, take, drop}
-use lib.Seq.{drop-at, length-take-le}
+use lib.ListN.{length}
 use Rattle.semiautomata.specs.Semiautomaton.{Semiautomaton}
 use Rattle.semiautomata.specs.Predictability.{Lookahead}
 use Rattle.semiautomata.specs.Successors.{successors}
@@ -61,12 +60,14 @@ module _ (A : Asked) (P : Proper A) (w : Passes A) {n m starts : ℕ} {sets : Li
   unfolding refusalWith
   left b = refused-passing A P w b
 
-  pub counts-asked : (a : Prepared) (old letters : List ℕ) → CountsTo (plain (successors n m starts sets)) a old letters → CountsTo A a old letters
+  pub counts-asked : (a : Prepared) (old letters : List ℕ) → CountsTo (plain (successors n m starts sets)) a old letters
+      → CountsTo A a old letters
   counts-asked a old letters c =
       let d = subst (λ (S : Semiautomaton). CountsTo (plain S) a old letters) (h .means) c in
       rw (left (shortLetters (A .means) (length old))) d
 
-  pub prepares-asked : (a : Prepared) (old table old′ letters : List ℕ) → Prepares (plain (successors n m starts sets)) a old table old′ letters
+  pub prepares-asked : (a : Prepared) (old table old′ letters : List ℕ)
+      → Prepares (plain (successors n m starts sets)) a old table old′ letters
       → Prepares A a old table old′ letters
   prepares-asked a old table old′ letters c =
       let d = subst (λ (S : Semiautomaton). Prepares (plain S) a old table old′ letters) (h .means) c in

@@ -2,7 +2,7 @@
 -- Assumes nothing.
 use Prim.Native.Nat.{ℕ, _+_, _*_, _≤_, _<_}
 use mathlib.Core.Bool.{Bool, true, false, cond}
-use mathlib.Core.Path.{_≡_, refl, sym, _∙_}
+use mathlib.Core.Path.{_≡_, sym, _∙_}
 use mathlib.Core.Logic.{_⊎_, inl, inr}
 use native.Mathlib.Omega.{arith}
 use native.Mathlib.Nat.{mul-le-mul-right}
@@ -56,7 +56,8 @@ module _ (A : Asked) (P : Proper A) where
       pub table-short : table < setsFrom + A .means .n * A .means .m → 9 ≡ prepareRefusal A table letters
       table-short h = sym (refused-passing w _ ∙ rw (lt-ltb table (setsFrom + A .means .n * A .means .m) h))
 
-      pub prepare-clear : setsFrom + A .means .n * A .means .m ≤ table → A .means .n * A .means .n ≤ letters → prepareRefusal A table letters ≡ 0
+      pub prepare-clear : setsFrom + A .means .n * A .means .m ≤ table → A .means .n * A .means .n ≤ letters
+          → prepareRefusal A table letters ≡ 0
       prepare-clear h g =
           refused-passing w _ ∙ rw (le-ltb table (setsFrom + A .means .n * A .means .m) h, le-ltb letters (A .means .n * A .means .n) g)
 

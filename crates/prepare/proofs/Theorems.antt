@@ -3,10 +3,10 @@
 use Prim.Native.Nat.{ℕ, _+_, _*_, _≤_}
 use native.Mathlib.Omega.{arith}
 use mathlib.Core.Bool.{false≢true}
-use mathlib.Core.Path.{_≡_, refl, sym, _∙_, ap}
+use mathlib.Core.Path.{_≡_, refl, _∙_, ap}
 use mathlib.Core.Logic.{inl, inr}
 use mathlib.Core.List.{List}
-use lib.ListN.{length, take-append-drop}
+use lib.ListN.{length}
 use Rattle.semiautomata.proofs.Shares.{lookahead-unique, lookahead-predicts}
 use Rattle.semiautomata.proofs.Bound.{lookahead-bound, lookahead-bound-one}
 use Rattle.semiautomata.specs.Semiautomaton.{Semiautomaton}
@@ -39,7 +39,8 @@ module _ (A : Asked) (P : Proper A) where
     never (inl c) = let (p, s) = count-never-so A P c in (clear-passes A P _ p, s)
     never (inr (_, _, c)) = let (p, s, _) = prepare-never-so A P c in (clear-passes A P _ p, s)
 
-  passes : (e : Evidence) (old letters : List ℕ) → Answers A (prepared.Unpredictable e) old letters → (r : Checked) → Checks A e letters r → r ≡ Yes
+  passes : (e : Evidence) (old letters : List ℕ) → Answers A (prepared.Unpredictable e) old letters → (r : Checked)
+      → Checks A e letters r → r ≡ Yes
   passes e old letters s (Refused r) (a, n, _) = absurd (n (a ∙ never s .0))
   passes e old letters s Yes _ = refl
   passes e old letters s No (_, (_, n)) = absurd (false≢true (n (never s .1 .claimed)))
@@ -85,7 +86,8 @@ module _ (A : Asked) (P : Proper A) where
     not-both = λ k e old letters old′ letters′ a s. lookahead-predicts (ready a .1) (shown-never (never s .1));
     table-reads = λ k old table old′ letters c. let r = table-read old old′ letters c in (r .fit, r .means, r .k-is);
     counted-right = λ w a old letters g c. right a old letters (counts-on w a old letters g c) (inl c);
-    prepared-right = λ w a old table old′ letters f g c. right a old′ letters (prepares-on w a old table old′ letters f g c) (inr (old, table, c));
+    prepared-right = λ w a old table old′ letters f g c.
+        right a old′ letters (prepares-on w a old table old′ letters f g c) (inr (old, table, c));
     never-so = λ e old letters s. shown-never (never s .1);
     ready-so = λ k old letters a. ready a .1;
     bound = λ k old letters a. lookahead-bound (A .means) (P .sized (ready a .0) .within) k (ready a .1);

@@ -78,7 +78,8 @@ Prepares A a old table old′ letters =
 
 -- What the count call gives: the same without a table.
 abbrev pub CountsTo : Asked → Prepared → List ℕ → List ℕ → Type 0
-CountsTo A a old letters = LooksAhead (countRefusal A (length old)) (A .means) (outcomeOfPrepared a) × LeavesLetters (A .means) a old letters
+CountsTo A a old letters =
+    LooksAhead (countRefusal A (length old)) (A .means) (outcomeOfPrepared a) × LeavesLetters (A .means) a old letters
 
 -- What the drawing program's entry answers, as one number: k, or 65,536 plus the refusal.
 abbrev pub asNumber : Outcome ℕ → ℕ

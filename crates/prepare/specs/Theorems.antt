@@ -31,7 +31,8 @@ pub record Right (S : Semiautomaton) (a : Prepared) : Type 0 where
 pub record Theorems (A : Asked) : Type 0 where
   -- any two calls agree: the same k, or 15 from both
   pub same-k : (k j : ℕ) (old letters old′ letters′ : List ℕ) → Answers A (Ready k) old letters → Answers A (Ready j) old′ letters′ → j ≡ k
-  pub not-both : (k : ℕ) (e : Evidence) (old letters old′ letters′ : List ℕ) → Answers A (Ready k) old letters → ¬ Answers A (Unpredictable e) old′ letters′
+  pub not-both : (k : ℕ) (e : Evidence) (old letters old′ letters′ : List ℕ) → Answers A (Ready k) old letters
+      → ¬ Answers A (Unpredictable e) old′ letters′
   -- the table that preparing leaves is fit, means what was asked and has its look-ahead
   pub table-reads : (k : ℕ) (old table old′ letters : List ℕ) → Prepares A (Ready k) old table old′ letters
       → (unfit table ≡ false) × (tableMeaning table ≡ A .means) × (lookaheadOf table ≡ k)
@@ -47,4 +48,5 @@ pub record Theorems (A : Asked) : Type 0 where
   pub bound : (k : ℕ) (old letters : List ℕ) → Answers A (Ready k) old letters → k ≤ A .means .n * (A .means .n - 1) / 2
   pub bound-one-letter : A .means .m ≡ 1 → (k : ℕ) (old letters : List ℕ) → Answers A (Ready k) old letters → k ≤ A .means .n - 1
   -- the evidence that is answered passes the check
-  pub evidence-passes : (e : Evidence) (old letters : List ℕ) → Answers A (Unpredictable e) old letters → (r : Checked) → Checks A e letters r → r ≡ Yes
+  pub evidence-passes : (e : Evidence) (old letters : List ℕ) → Answers A (Unpredictable e) old letters → (r : Checked)
+      → Checks A e letters r → r ≡ Yes

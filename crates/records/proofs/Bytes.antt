@@ -6,7 +6,8 @@ use mathlib.Core.Path.{_≡_, refl, sym, _∙_, ap}
 use mathlib.Core.List.{List, [], _∷_, _++_, append-assoc, append-nil}
 use native.Mathlib.Omega.{arith}
 use lib.Dec.{eqb, leb}
-use lib.ListN.{length, getD, take, drop, replicate, length-append, length-drop, length-replicate, getD-replicate, drop-of-length-le, List·getD-append}
+use lib.ListN.{length, getD, take, drop, replicate, length-append, length-drop, length-replicate}
+use lib.ListN.{getD-replicate, drop-of-length-le, List·getD-append}
 use lib.Seq.{take-append-seam, getD-append-add, take-all}
 use borrow.Author.Tests.{leb-true, le-leb, lt-leb, eqb-true, not-true, not-false}
 use Rattle.bitset.specs.Sets.{any}
@@ -29,7 +30,8 @@ and-last true true false = refl
 
 -- WRITTEN AND READ BACK
 
-four : (x : ℕ) → x < 2 ^ 32 → x % 256 + 256 * (x / 256 % 256 + 256 * (x / 256 / 256 % 256 + 256 * (x / 256 / 256 / 256 % 256 + 256 * 0))) ≡ x
+four : (x : ℕ) → x < 2 ^ 32
+    → x % 256 + 256 * (x / 256 % 256 + 256 * (x / 256 / 256 % 256 + 256 * (x / 256 / 256 / 256 % 256 + 256 * 0))) ≡ x
 four x h = omega arith
 
 two : (x : ℕ) → x < 2 ^ 16 → x % 256 + 256 * (x / 256 % 256 + 256 * 0) ≡ x
@@ -37,7 +39,13 @@ two x h = omega arith
 
 module _ (k : ℕ) (r : Rec) (rest : List ℕ) (few : length (r .held) < 2 ^ 16) where
   pub decode-encode : r .fed < 2 ^ 32 → decode (encode k r ++ rest) ≡ r
-  decode-encode h = rw (four (r .fed) h, two (length (r .held)) few, append-assoc (r .held) (replicate (k - length (r .held)) 0) rest, take-append-seam)
+  decode-encode h = rw (
+    four (r .fed) h,
+    two (length (r .held)) few,
+    append-assoc (r .held)
+        (replicate (k - length (r .held)) 0) rest,
+    take-append-seam,
+  )
 
   -- past the held letters
   zero-at : (i : ℕ) → i < k - length (r .held) → getD (encode k r ++ rest) (heldFrom + length (r .held) + i) 0 ≡ 0
@@ -47,7 +55,8 @@ module _ (k : ℕ) (r : Rec) (rest : List ℕ) (few : length (r .held) < 2 ^ 16)
       rw (e, append-assoc (r .held) (replicate (k - length (r .held)) 0) rest)
       (getD-append-add (bytesOf 4 (r .fed) ++ (r .last ∷ 0 ∷ bytesOf 2 (length (r .held)))) q (length (r .held) + i) 0
       ∙ getD-append-add (r .held) (replicate (k - length (r .held)) 0 ++ rest) i 0
-      ∙ List·getD-append (replicate (k - length (r .held)) 0) rest 0 i (rw length-replicate g) ∙ getD-replicate (k - length (r .held)) i 0 0 g)
+      ∙ List·getD-append (replicate (k - length (r .held)) 0) rest 0 i (rw length-replicate g)
+      ∙ getD-replicate (k - length (r .held)) i 0 0 g)
 
   pub tidy-encode : length (r .held) ≤ k → tidy k (encode k r ++ rest) ≡ true
   unfolding tidy
@@ -81,7 +90,8 @@ module _ (k : ℕ) (bytes : List ℕ) where
       no true = refl
       no false = refl
 
-  pub tidy-is : {held : ℕ} → held ≡ heldCount bytes → held ≤ k → {z : Bool} → z ≡ not (any (k - held) (λ i. not (eqb (getD bytes (heldFrom + held + i) 0) 0)))
+  pub tidy-is : {held : ℕ} → held ≡ heldCount bytes → held ≤ k → {z : Bool}
+      → z ≡ not (any (k - held) (λ i. not (eqb (getD bytes (heldFrom + held + i) 0) 0)))
       → (eqb (getD bytes 5 0) 0 && z) ≡ tidy k bytes
   unfolding tidy
   tidy-is {held} e h {z} d = rw (d, e, le-leb (heldCount bytes) k (omega arith))

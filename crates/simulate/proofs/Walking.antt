@@ -8,7 +8,6 @@ use native.Mathlib.Omega.{arith}
 use lib.Dec.{ltb}
 use lib.ListN.{length, take, drop}
 use borrow.Author.Tests.{lt-ltb, le-ltb}
-use Rattle.bitset.specs.Sets.{any}
 use Rattle.bitset.specs.Numbers.{has}
 use Rattle.bitset.proofs.Below.{any-none}
 use Rattle.bitset.proofs.Bits.{has-empty, some-member}
@@ -16,7 +15,7 @@ use Rattle.semiautomata.specs.Semiautomaton.{Semiautomaton}
 use Rattle.semiautomata.specs.Walks.{possible, longest}
 use Rattle.refusals.proofs.First.{passed-first}
 use Rattle.table.specs.declared.Head.{Head}
-use Rattle.table.specs.Table.{statesOf, lettersOf, initialOf, unfit}
+use Rattle.table.specs.Table.{statesOf, initialOf, unfit}
 use Rattle.table.proofs.Heads.{over, Headed}
 use Rattle.walks.specs.Walking.{letterOff, Written}
 use Rattle.walks.proofs.Longest.{longest-le}

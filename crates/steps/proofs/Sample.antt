@@ -14,7 +14,6 @@ use Rattle.semiautomata.specs.Walks.{spells, step, possible, walkable}
 use Rattle.streaming.specs.PlainWalk.{limit}
 use Rattle.streaming.specs.Calls.{resolved, nothing}
 use Rattle.streaming.specs.Streaming.{base, sound, soleAt, settle}
-use Rattle.semiautomata.specs.Successors.{place}
 use Rattle.plan.specs.Bytes.{meaning, outcomeOfReading, reading, WellFormed}
 use Rattle.plan.specs.declared.Reading.the-variants.{Counts}
 use Rattle.table.specs.Table.{lookaheadOf, tableMeaning, unfit, laidOut}

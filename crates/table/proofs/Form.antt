@@ -114,6 +114,7 @@ pub record Reads (S : Semiautomaton) (k : ℕ) (table : List ℕ) : Type 0 where
   pub means : tableMeaning table ≡ S
   pub k-is : lookaheadOf table ≡ k
 
-pub form-reads : {S : Semiautomaton} {k : ℕ} {table : List ℕ} (rest : List ℕ) → Preparable S k → table ≡ tableOf S k ++ rest → Reads S k table
+pub form-reads : {S : Semiautomaton} {k : ℕ} {table : List ℕ} (rest : List ℕ) → Preparable S k → table ≡ tableOf S k ++ rest
+    → Reads S k table
 form-reads {S} {k} rest P e =
     rw e (record { fit = fitting-fit (form-fitting S k P rest); means = form-means S k P rest; k-is = refl })

@@ -84,7 +84,8 @@ module _ (table : List ℕ) (fit : unfit table ≡ false) (L : Lookahead (tableM
           reply = agree .reply;
           state = record {
             offered = o ++ (a ∷ []);
-            holds = rw (final-snoc (feed S k) (opened S k .state) o a) (written-holds k bytes r (t .state) (t .reply) (h .holds) small (feed-keeps S k r a));
+            holds = rw (final-snoc (feed S k) (opened S k .state) o a)
+                (written-holds k bytes r (t .state) (t .reply) (h .holds) small (feed-keeps S k r a));
             taken = sym (final-snoc (plainFeed S k) [] o a);
           };
         })
@@ -94,12 +95,15 @@ module _ (table : List ℕ) (fit : unfit table ≡ false) (L : Lookahead (tableM
     same-ends bytes w h =
         let o = h .offered in
         let f = follows o in
-        let room : (ltb (length bytes) (heldFrom + k) || ltb mostSets k) ≡ false = rw (le-ltb (length bytes) (heldFrom + k) (h .holds .room), le-ltb mostSets k small-k) in
-        let stands : sound S k (decode bytes) ≡ true = rw (h .holds .is) (follows-sound S W k (L .enough) (recordAfter S k o) (plainTaken S k o) f) in
+        let room : (ltb (length bytes) (heldFrom + k) || ltb mostSets k) ≡ false =
+        rw (le-ltb (length bytes) (heldFrom + k) (h .holds .room), le-ltb mostSets k small-k) in
+        let stands : sound S k (decode bytes) ≡ true =
+        rw (h .holds .is) (follows-sound S W k (L .enough) (recordAfter S k o) (plainTaken S k o) f) in
         let zero = end-0 table bytes mostSets (fitting table fit) room (h .holds .tidied) stands in
         let fed : decode bytes .fed ≡ length (plainTaken S k o) = ap (λ (r : Rec). r .fed) (h .holds .is) ∙ f .fed-are in
         let sets : ended table bytes ≡ map (setOf (S .n)) (unresolved S k (S .initial) (plainTaken S k o)) =
-        ap (λ (r : Rec). map (setOf (S .n)) (finish S k r)) (h .holds .is) ∙ ap (map (setOf (S .n))) (finish-whole S W k (L .enough) s e o) in
+        ap (λ (r : Rec). map (setOf (S .n)) (finish S k r)) (h .holds .is)
+        ∙ ap (map (setOf (S .n))) (finish-whole S W k (L .enough) s e o) in
         rw (zero, sets, fed, h .taken)
 
     module _ (bytes : List ℕ) (room : recordSize ≤ length bytes) where
@@ -118,46 +122,58 @@ module _ (table : List ℕ) (fit : unfit table ≡ false) (L : Lookahead (tableM
           go nothing q = encode-holds k (opened S k .state) bytes (omega (arith, small-k)) small
 
       opened-reply : openedOn table bytes .reply ≡ plainReply S k []
-      opened-reply = ap (λ (x : Result (List ℕ)). x .reply) (opened-is table fit bytes (omega (arith, small-k))) ∙ opened-agrees S W k (L .enough) s e .reply
+      opened-reply = ap (λ (x : Result (List ℕ)). x .reply) (opened-is table fit bytes (omega (arith, small-k)))
+          ∙ opened-agrees S W k (L .enough) s e .reply
 
       -- the whole text of a walk
-      opened-text : (letters : List ℕ) → replyText (openedOn table bytes .reply) ++ walkOn table (openedOn table bytes .state) letters ≡ plainText S k letters
+      opened-text : (letters : List ℕ)
+          → replyText (openedOn table bytes .reply) ++ walkOn table (openedOn table bytes .state) letters ≡ plainText S k letters
       unfolding plainText
       opened-text letters =
-          rw (opened-reply, walk-agrees Same (fedOn table) (plainFeed S k) (openOn table) (plainOpen S k) same-feeds same-ends letters (openedOn table bytes .state) [] same-opened)
+          rw (
+            opened-reply,
+            walk-agrees Same (fedOn table) (plainFeed S k) (openOn table) (plainOpen S k) same-feeds same-ends letters
+                (openedOn table bytes .state) [] same-opened,
+          )
 
   -- some state is initial, or none is
   some-start : ((s : ℕ) × (S .initial s ≡ true)) ⊎ ((s : ℕ) → S .initial s ≡ false)
   some-start = go (decided (any (S .n) (S .initial)))
     where
-      go : (any (S .n) (S .initial) ≡ true) ⊎ (any (S .n) (S .initial) ≡ false) → ((s : ℕ) × (S .initial s ≡ true)) ⊎ ((s : ℕ) → S .initial s ≡ false)
+      go : (any (S .n) (S .initial) ≡ true) ⊎ (any (S .n) (S .initial) ≡ false)
+          → ((s : ℕ) × (S .initial s ≡ true)) ⊎ ((s : ℕ) → S .initial s ≡ false)
       go (inl e) = let (s, _, i) = any-out (S .n) (S .initial) e in inl (s, i)
       go (inr e) = inr (λ s. not-so (S .initial s) (λ i. true≢false (sym i ∙ any-not (S .n) (S .initial) e s (W .initial-lt s i))))
 
   -- what opening prints
-  module _ (bytes : List ℕ) (room : recordSize ≤ length bytes) {reply : Reply} (said : reply ≡ openedOn table bytes .reply) {left : List ℕ} (state : left ≡ openedOn table bytes .state)
+  module _ (bytes : List ℕ) (room : recordSize ≤ length bytes) {reply : Reply} (said : reply ≡ openedOn table bytes .reply) {left : List ℕ}
+      (state : left ≡ openedOn table bytes .state)
       {old : List ℕ} {at r : ℕ} {out : List ℕ} (p : Appended old at (replyText reply) r out) where
     none-refused : ((s : ℕ) → S .initial s ≡ false) → reply ≡ refused 13
-    none-refused none = said ∙ ap (λ (x : Result (List ℕ)). x .reply) (opened-is table fit bytes (omega (arith, small-k))) ∙ opened-none S k none
+    none-refused none = said ∙ ap (λ (x : Result (List ℕ)). x .reply) (opened-is table fit bytes (omega (arith, small-k)))
+        ∙ opened-none S k none
 
     some-taken : (s : ℕ) → S .initial s ≡ true → ¬ (isRefusal reply ≡ true)
     some-taken s e h = go reply h said
       where
         go : (q : Reply) → isRefusal q ≡ true → q ≡ openedOn table bytes .reply → ⊥
-        go (refused x) h d = opened-some S W k (L .enough) s e x (sym (ap (λ (x : Result (List ℕ)). x .reply) (opened-is table fit bytes (omega (arith, small-k)))) ∙ sym d)
+        go (refused x) h d = opened-some S W k (L .enough) s e x
+            (sym (ap (λ (x : Result (List ℕ)). x .reply) (opened-is table fit bytes (omega (arith, small-k)))) ∙ sym d)
         go (resolved i x) h d = true≢false (sym h)
         go nothing h d = true≢false (sym h)
 
     pub opened-goes : isRefusal reply ≡ false → Laid (AfterLookahead S k) old at r out (walkOn table left)
     opened-goes e = record { text = replyText reply; put = p; follows = λ letters. go letters some-start }
       where
-        go : (letters : List ℕ) → ((s : ℕ) × (S .initial s ≡ true)) ⊎ ((s : ℕ) → S .initial s ≡ false) → AfterLookahead S k letters (replyText reply ++ walkOn table left letters)
+        go : (letters : List ℕ) → ((s : ℕ) × (S .initial s ≡ true)) ⊎ ((s : ℕ) → S .initial s ≡ false)
+            → AfterLookahead S k letters (replyText reply ++ walkOn table left letters)
         go letters (inl (s, i)) = rw (said, state, opened-text s i bytes room letters) (walked s i)
         go letters (inr none) = absurd (true≢false (sym (ap isRefusal (none-refused none)) ∙ e))
 
     pub opened-ends : isRefusal reply ≡ true → Laid (AfterLookahead S k) old at r out (λ letters. [])
     opened-ends e = record { text = replyText reply; put = p; follows = λ letters. go letters some-start }
       where
-        go : (letters : List ℕ) → ((s : ℕ) × (S .initial s ≡ true)) ⊎ ((s : ℕ) → S .initial s ≡ false) → AfterLookahead S k letters (replyText reply ++ [])
+        go : (letters : List ℕ) → ((s : ℕ) × (S .initial s ≡ true)) ⊎ ((s : ℕ) → S .initial s ≡ false)
+            → AfterLookahead S k letters (replyText reply ++ [])
         go letters (inl (s, i)) = absurd (some-taken s i e)
         go letters (inr none) = rw (append-nil, none-refused none) (no-start none)

@@ -23,7 +23,8 @@ use Rattle.prepare.proofs.Refusals.{square, prepare-clear}
 use Rattle.text.specs.declared.Printed.{Printed}
 use Rattle.text.specs.declared.Printed.the-variants.{Going, Ended, Short}
 use Rattle.lines.specs.Lines.{countsLine, lookaheadLine, refusedLine, Appended}
-use Rattle.text.specs.Report.{totalOf, planOf, lettersOf, noPlan, countsOf, AfterLookahead, AfterCounts, never, predicts, Reports, no-plan, ill-formed, well-formed}
+use Rattle.text.specs.Report.{totalOf, planOf, lettersOf, noPlan, countsOf, AfterLookahead, AfterCounts, never, predicts, Reports}
+use Rattle.text.specs.Report.{no-plan, ill-formed, well-formed}
 use Rattle.text.specs.Calls.{tableSize, Laid, Lays, over, Leaves, read, ReportText, Roomy, Begins}
 use Rattle.lines.proofs.Lines.{appended-on}
 
@@ -32,9 +33,15 @@ module _ (says says′ : List ℕ → List ℕ → Type 0) {old : List ℕ} {at 
     (more : (letters text : List ℕ) → says letters text → says′ letters (a ++ text)) where
   laid-on : {q : ℕ} {out : List ℕ} {later : List ℕ → List ℕ} → Laid says mid r q out later → Laid says′ old at q out later
   laid-on {q} {out} {later} l =
-      record { text = a ++ l .text; put = appended-on p (l .put); follows = λ letters. rw (append-assoc a (l .text) (later letters)) (more letters (l .text ++ later letters) (l .follows letters)) }
+      record {
+        text = a ++ l .text;
+        put = appended-on p (l .put);
+        follows =
+            λ letters. rw (append-assoc a (l .text) (later letters)) (more letters (l .text ++ later letters) (l .follows letters));
+      }
 
-  pub lays-on : (printed : Printed) (out table left : List ℕ) → Lays says mid r printed out table left → Lays says′ old at printed out table left
+  pub lays-on : (printed : Printed) (out table left : List ℕ) → Lays says mid r printed out table left
+      → Lays says′ old at printed out table left
   lays-on (Going q) out table left l = laid-on l
   lays-on (Ended q) out table left l = laid-on l
   lays-on Short out table left l = l
@@ -58,20 +65,26 @@ three-long a b c d e f h =
 -- LINE 2
 
 -- the buffers are long enough for every plan
-pub prepare-taken : (plan : List ℕ) → WellFormed plan → (table letters : ℕ) → tableSize ≤ table → 4096 ≤ letters → prepareRefusal (asked plan) table letters ≡ 0
+pub prepare-taken : (plan : List ℕ) → WellFormed plan → (table letters : ℕ) → tableSize ≤ table → 4096 ≤ letters
+    → prepareRefusal (asked plan) table letters ≡ 0
 prepare-taken plan w table letters a b =
     let r = well-formed-range plan w in
-    let cells : headerOf plan .n * headerOf plan .m ≤ 2048 = le-trans (mul-le-mul-right (headerOf plan .m) (r .n-high)) (mul-le-mul-left 64 (r .m-high)) in
+    let cells : headerOf plan .n * headerOf plan .m ≤ 2048 =
+    le-trans (mul-le-mul-right (headerOf plan .m) (r .n-high)) (mul-le-mul-left 64 (r .m-high)) in
     prepare-clear (asked plan) (asked-proper plan) w letters (omega arith) (omega (arith, square (r .n-high)))
 
 module _ {S : Semiautomaton} {old : List ℕ} {at : ℕ} where
-  pub counted : {k : ℕ} {table : List ℕ} → Lookahead S k → Reads S k table → {r : ℕ} {mid : List ℕ} → Appended old at (lookaheadLine k) r mid
-      → (printed : Printed) (out left : List ℕ) → Lays (AfterLookahead (tableMeaning table) (lookaheadOf table)) mid r printed out table left
+  pub counted : {k : ℕ} {table : List ℕ} → Lookahead S k → Reads S k table → {r : ℕ} {mid : List ℕ}
+      → Appended old at (lookaheadLine k) r mid
+      → (printed : Printed) (out left : List ℕ)
+      → Lays (AfterLookahead (tableMeaning table) (lookaheadOf table)) mid r printed out table left
       → Lays (AfterCounts S) old at printed out table left
   counted {k} {table} L t p printed out left =
-      lays-on (AfterLookahead (tableMeaning table) (lookaheadOf table)) (AfterCounts S) p (λ letters text a. predicts k L {text = text} (rw (t .means, t .k-is) at a)) printed out table left
+      lays-on (AfterLookahead (tableMeaning table) (lookaheadOf table)) (AfterCounts S) p
+      (λ letters text a. predicts k L {text = text} (rw (t .means, t .k-is) at a)) printed out table left
 
-  pub never-counted : Unpredictable S → {r : ℕ} {out : List ℕ} → Appended old at (refusedLine 15) r out → Laid (AfterCounts S) old at r out (λ letters. [])
+  pub never-counted : Unpredictable S → {r : ℕ} {out : List ℕ} → Appended old at (refusedLine 15) r out
+      → Laid (AfterCounts S) old at r out (λ letters. [])
   never-counted u p = lays-last (AfterCounts S) p (λ letters. never u)
 
 -- THE INPUT
@@ -97,7 +110,14 @@ module _ (input : List ℕ) (e : noPlan input ≡ false) (rest : List ℕ) where
   unfolding noPlan
   still-plan =
       let w = whole input e in
-      rw (same-total, length-append input rest, le-ltb (length input + length rest) 16 (omega (arith, w .long)), le-ltb (totalOf input) 16 (w .total), le-ltb (length input + length rest) (totalOf input) (omega (arith, w .there)))
+      rw (
+        same-total,
+        length-append input rest,
+        le-ltb (length input + length rest) 16 (omega (arith, w .long)),
+        le-ltb (totalOf input) 16
+            (w .total),
+        le-ltb (length input + length rest) (totalOf input) (omega (arith, w .there)),
+      )
 
   same-plan : planOf (input ++ rest) ≡ planOf input
   same-plan = rw same-total (take-append-le (totalOf input) input rest (whole input e .there))
@@ -122,18 +142,21 @@ module _ (plan : List ℕ) {n m s l : ℕ} (d : outcomeOfReading (Counts n m s l
 
 -- what begin prints in each case
 module _ (input : List ℕ) {old : List ℕ} where
-  pub begun-no-plan : noPlan input ≡ true → {r : ℕ} {out : List ℕ} → Appended old 0 (refusedLine 1) r out → Laid (ReportText input) old 0 r out (λ rest. [])
+  pub begun-no-plan : noPlan input ≡ true → {r : ℕ} {out : List ℕ} → Appended old 0 (refusedLine 1) r out
+      → Laid (ReportText input) old 0 r out (λ rest. [])
   begun-no-plan e p = lays-last (ReportText input) p (λ rest told. no-plan (told e))
 
   module _ (e : noPlan input ≡ false) where
-    pub begun-ill : (number : ℕ) → outcomeOfReading (Refused number) ≡ reading (planOf input) → {r : ℕ} {out : List ℕ} → Appended old 0 (refusedLine number) r out
+    pub begun-ill : (number : ℕ) → outcomeOfReading (Refused number) ≡ reading (planOf input) → {r : ℕ} {out : List ℕ}
+        → Appended old 0 (refusedLine number) r out
         → ¬ WellFormed (planOf input) × Laid (ReportText input) old 0 r out (λ rest. [])
     begun-ill number d p =
         let (is, n) = reading-refused (planOf input) d in
         let ill : ¬ WellFormed (planOf input) = λ w. n (is ∙ w) in
         (ill, lays-last (ReportText input) p (λ rest _. rw is (report-ill input e rest ill)))
 
-    module _ {n m s l : ℕ} (d : outcomeOfReading (Counts n m s l) ≡ reading (planOf input)) {at : ℕ} {mid : List ℕ} (p : Appended old 0 (countsLine n m s l) at mid) where
+    module _ {n m s l : ℕ} (d : outcomeOfReading (Counts n m s l) ≡ reading (planOf input)) {at : ℕ} {mid : List ℕ}
+        (p : Appended old 0 (countsLine n m s l) at mid) where
       begun : {r : ℕ} {out : List ℕ} {later : List ℕ → List ℕ} → Laid (AfterCounts (meaning (planOf input))) mid at r out later
           → Laid (ReportText input) old 0 r out (λ rest. later (lettersOf input ++ rest))
       begun {later = later} a =
@@ -146,7 +169,8 @@ module _ (input : List ℕ) {old : List ℕ} where
                 (report-well input e rest w (a .text ++ later (lettersOf input ++ rest)) (a .follows (lettersOf input ++ rest)));
           }
 
-      pub begun-well : (printed : Printed) (table bytes table′ left out : List ℕ) → Roomy table bytes old → Lays (AfterCounts (meaning (planOf input))) mid at printed out table′ left
+      pub begun-well : (printed : Printed) (table bytes table′ left out : List ℕ) → Roomy table bytes old
+          → Lays (AfterCounts (meaning (planOf input))) mid at printed out table′ left
           → Leaves (meaning (planOf input)) table bytes (over printed) table′ left → Begins input table bytes printed table′ left old out
       begun-well (Going q) table bytes table′ left out lent a l = (lent, read e (read-well (planOf input) d) l, begun a)
       begun-well (Ended q) table bytes table′ left out lent a l = (lent, read e (read-well (planOf input) d) l, begun a)

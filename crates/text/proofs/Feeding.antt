@@ -26,12 +26,14 @@ pub record Upto (table bytes letters old : List ℕ) (i : ℕ) (left out : List 
   pub follows : (rest : List ℕ) → walkOn table bytes (letters ++ rest) ≡ text ++ walkOn table left (drop i letters ++ rest)
 
 pub upto-none : (table bytes letters old : List ℕ) → Upto table bytes letters old 0 bytes old 0
-upto-none table bytes letters old = record { text = []; put = appended-none 0 (omega arith); few = omega arith; long = refl; fed = refl; follows = λ rest. refl }
+upto-none table bytes letters old =
+    record { text = []; put = appended-none 0 (omega arith); few = omega arith; long = refl; fed = refl; follows = λ rest. refl }
 
 module _ {table bytes letters old : List ℕ} {i : ℕ} {left out : List ℕ} {at : ℕ} (u : Upto table bytes letters old i left out at) where
   -- one letter more: its reply, the text of that, and the record that is left
   module _ (h : i < length letters) {reply : Reply} {left′ : List ℕ} (said : reply ≡ fedOn table left (getD letters i 0) .reply)
-      (state : left′ ≡ fedOn table left (getD letters i 0) .state) {r : ℕ} {out′ : List ℕ} (p : Appended out at (replyText reply) r out′) where
+      (state : left′ ≡ fedOn table left (getD letters i 0) .state) {r : ℕ} {out′ : List ℕ}
+      (p : Appended out at (replyText reply) r out′) where
     more : {b : Bool} → isRefusal reply ≡ b → (rest : List ℕ) → walkOn table bytes (letters ++ rest)
         ≡ (u .text ++ replyText reply) ++ cond b (openOn table left′) (walkOn table left′ (drop (i + 1) letters ++ rest))
     unfolding walkText
@@ -39,18 +41,30 @@ module _ {table bytes letters old : List ℕ} {i : ℕ} {left out : List ℕ} {a
         u .follows rest
         ∙ rw (drop-cons letters i 0 h, walkText, ← said, ← state, e, append-assoc, add-one)
 
-    fed-more : {b : Bool} → isRefusal reply ≡ b → fedUpto table bytes letters ≡ cond b (record { refused = true; left = left′ }) (fedUpto table left′ (drop (i + 1) letters))
+    fed-more : {b : Bool} → isRefusal reply ≡ b
+        → fedUpto table bytes letters ≡ cond b (record { refused = true; left = left′ }) (fedUpto table left′ (drop (i + 1) letters))
     fed-more e = u .fed ∙ rw (drop-cons letters i 0 h, ← said, ← state, e, add-one)
 
-    pub upto-next : isRefusal reply ≡ false → length left′ ≡ length left → r ≤ at + letterWidth → Upto table bytes letters old (i + 1) left′ out′ r
-    upto-next e l f = record { text = u .text ++ replyText reply; put = appended-on (u .put) p; few = omega (arith, u .few); long = l ∙ u .long; fed = fed-more e; follows = more e }
+    pub upto-next : isRefusal reply ≡ false → length left′ ≡ length left → r ≤ at + letterWidth
+        → Upto table bytes letters old (i + 1) left′ out′ r
+    upto-next e l f = record {
+      text = u .text ++ replyText reply;
+      put = appended-on (u .put) p;
+      few = omega (arith, u .few);
+      long = l
+          ∙ u .long;
+      fed = fed-more e;
+      follows = more e;
+    }
 
     pub upto-refused : isRefusal reply ≡ true
-        → (fedUpto table bytes letters ≡ record { refused = true; left = left′ }) × Laid (FedText table bytes letters) old 0 r out′ (λ rest. openOn table left′)
+        → (fedUpto table bytes letters ≡ record { refused = true; left = left′ })
+        × Laid (FedText table bytes letters) old 0 r out′ (λ rest. openOn table left′)
     upto-refused e = (fed-more e, record { text = u .text ++ replyText reply; put = appended-on (u .put) p; follows = more e })
 
   pub upto-all : length letters ≤ i
-      → (fedUpto table bytes letters ≡ record { refused = false; left = left }) × Laid (FedText table bytes letters) old 0 at out (walkOn table left)
+      → (fedUpto table bytes letters ≡ record { refused = false; left = left })
+      × Laid (FedText table bytes letters) old 0 at out (walkOn table left)
   upto-all h = (
     u .fed ∙ rw (drop-of-length-le letters {i = i} h),
     record { text = u .text; put = u .put; follows = λ rest. u .follows rest ∙ rw (drop-of-length-le letters {i = i} h) },

@@ -16,7 +16,8 @@ use Rattle.text.specs.Calls.{mostSets, openWidth, openOn}
 use Rattle.lines.proofs.Lines.{appended-none, appended-on, appended-long}
 use Rattle.lines.proofs.Widths.{open-width}
 
-open-snoc : (first : ℕ) (sets : List ℕ) (set : ℕ) → openLines first (sets ++ (set ∷ [])) ≡ openLines first sets ++ openLine (first + length sets) set
+open-snoc : (first : ℕ) (sets : List ℕ) (set : ℕ)
+    → openLines first (sets ++ (set ∷ [])) ≡ openLines first sets ++ openLine (first + length sets) set
 unfolding openLines
 open-snoc first [] set = let e : first + 0 ≡ first = omega arith in rw (e, append-nil)
 open-snoc first (x ∷ sets) set =
@@ -33,10 +34,12 @@ unfolding openLines
 lined-none first sets old = record { put = appended-none 0 (omega arith); few = omega arith }
 
 module _ {first : ℕ} {sets old : List ℕ} {i : ℕ} {out : List ℕ} {at : ℕ} (l : Lined first sets old i out at) where
-  pub lined-room : i < length sets → openWidth * length sets ≤ length old → first + i < 2 ^ 64 → Room out at (openLine (first + i) (getD sets i 0))
+  pub lined-room : i < length sets → openWidth * length sets ≤ length old → first + i < 2 ^ 64
+      → Room out at (openLine (first + i) (getD sets i 0))
   lined-room h g f = record { fits = omega (arith, l .few, appended-long (l .put), open-width (first + i) (getD sets i 0) f) }
 
-  pub lined-next : i < length sets → first + i < 2 ^ 64 → {r : ℕ} {out′ : List ℕ} → Appended out at (openLine (first + i) (getD sets i 0)) r out′
+  pub lined-next : i < length sets → first + i < 2 ^ 64 → {r : ℕ} {out′ : List ℕ}
+      → Appended out at (openLine (first + i) (getD sets i 0)) r out′
       → Lined first sets old (i + 1) out′ r
   lined-next h f {r} p =
       let e : openLines first (take (i + 1) sets) ≡ openLines first (take i sets) ++ openLine (first + i) (getD sets i 0) =
@@ -48,7 +51,8 @@ module _ {first : ℕ} {sets old : List ℕ} {i : ℕ} {out : List ℕ} {at : �
 
 -- what an ending answers, printed
 module _ (table bytes : List ℕ) {old : List ℕ} {r : ℕ} {out : List ℕ} where
-  pub finished-refused : (number : ℕ) → number ≡ endRefusal table bytes mostSets → ¬ (number ≡ 0) → Appended old 0 (refusedLine number) r out
+  pub finished-refused : (number : ℕ) → number ≡ endRefusal table bytes mostSets → ¬ (number ≡ 0)
+      → Appended old 0 (refusedLine number) r out
       → Appended old 0 (openOn table bytes) r out
   unfolding openOn
   finished-refused number e n p = rw (← e, ne-eqb number 0 n) p

@@ -42,7 +42,8 @@ openWidth = 225
 -- The open lines of a record, and the text of letters fed to it: the walk of Report.antt over a table and record bytes.
 unfoldable pub openOn : List ℕ → List ℕ → List ℕ
 openOn table bytes =
-    cond (eqb (endRefusal table bytes mostSets) 0) (openText (decode bytes .fed) (ended table bytes)) (refusedLine (endRefusal table bytes mostSets))
+    cond (eqb (endRefusal table bytes mostSets) 0) (openText (decode bytes .fed) (ended table bytes))
+    (refusedLine (endRefusal table bytes mostSets))
 
 abbrev pub walkOn : List ℕ → List ℕ → List ℕ → List ℕ
 walkOn table = walkText (fedOn table) (openOn table)
@@ -61,7 +62,8 @@ pub record Fed : Type 0 where
 abbrev pub fedUpto : List ℕ → List ℕ → List ℕ → Fed
 fedUpto table bytes [] = record { refused = false; left = bytes }
 fedUpto table bytes (a ∷ rest) =
-    cond (isRefusal (fedOn table bytes a .reply)) (record { refused = true; left = fedOn table bytes a .state }) (fedUpto table (fedOn table bytes a .state) rest)
+    cond (isRefusal (fedOn table bytes a .reply)) (record { refused = true; left = fedOn table bytes a .state })
+    (fedUpto table (fedOn table bytes a .state) rest)
 
 abbrev pub FedText : List ℕ → List ℕ → List ℕ → List ℕ → List ℕ → Type 0
 FedText table bytes letters rest text = walkOn table bytes (letters ++ rest) ≡ text
@@ -107,12 +109,14 @@ over Short = true
 -- leaves; it is over where opening is refused.
 pub data Leaves (S : Semiautomaton) (table bytes : List ℕ) (isOver : Bool) (table′ left : List ℕ) : Type 0 where
   unpredictable : Unpredictable S → isOver ≡ true → table′ ≡ table → left ≡ bytes → Leaves S table bytes isOver table′ left
-  opens : (k : ℕ) → Lookahead S k → table′ ≡ laidOut S k table → left ≡ openedOn table′ bytes .state → isRefusal (openedOn table′ bytes .reply) ≡ isOver
+  opens : (k : ℕ) → Lookahead S k → table′ ≡ laidOut S k table → left ≡ openedOn table′ bytes .state
+      → isRefusal (openedOn table′ bytes .reply) ≡ isOver
       → Leaves S table bytes isOver table′ left
 
 -- What an input leaves in them: as they were where 1 to 7 apply.
 pub data LeavesOf (input table bytes : List ℕ) (isOver : Bool) (table′ left : List ℕ) : Type 0 where
-  unread : (noPlan input ≡ true) ⊎ ¬ WellFormed (planOf input) → isOver ≡ true → table′ ≡ table → left ≡ bytes → LeavesOf input table bytes isOver table′ left
+  unread : (noPlan input ≡ true) ⊎ ¬ WellFormed (planOf input) → isOver ≡ true → table′ ≡ table → left ≡ bytes
+      → LeavesOf input table bytes isOver table′ left
   read : noPlan input ≡ false → WellFormed (planOf input) → Leaves (meaning (planOf input)) table bytes isOver table′ left
       → LeavesOf input table bytes isOver table′ left
 
@@ -129,8 +133,10 @@ Roomy table bytes old = (tableSize ≤ length table) × (recordSize ≤ length b
 
 abbrev pub Begins : List ℕ → List ℕ → List ℕ → Printed → List ℕ → List ℕ → List ℕ → List ℕ → Type 0
 Begins input table bytes (Going r) table′ left old out =
-    Roomy table bytes old × LeavesOf input table bytes false table′ left × Laid (ReportText input) old 0 r out (λ rest. walkOn table′ left (lettersOf input ++ rest))
+    Roomy table bytes old × LeavesOf input table bytes false table′ left
+    × Laid (ReportText input) old 0 r out (λ rest. walkOn table′ left (lettersOf input ++ rest))
 Begins input table bytes (Ended r) table′ left old out =
     Roomy table bytes old × LeavesOf input table bytes true table′ left × Laid (ReportText input) old 0 r out (λ rest. [])
 Begins input table bytes Short table′ left old out =
-    ((ltb (length table) tableSize || (ltb (length bytes) recordSize || ltb (length old) beginWidth)) ≡ true) × (table′ ≡ table) × (left ≡ bytes) × (out ≡ old)
+    ((ltb (length table) tableSize || (ltb (length bytes) recordSize || ltb (length old) beginWidth)) ≡ true) × (table′ ≡ table)
+    × (left ≡ bytes) × (out ≡ old)

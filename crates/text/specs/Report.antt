@@ -51,7 +51,8 @@ openText fed sets = openLines (suc fed - length sets) sets
 unfoldable pub walkText : {A : Type 0} → (A → ℕ → Result A) → (A → List ℕ) → A → List ℕ → List ℕ
 walkText feed ending s [] = ending s
 walkText feed ending s (a ∷ letters) =
-    replyText (feed s a .reply) ++ cond (isRefusal (feed s a .reply)) (ending (feed s a .state)) (walkText feed ending (feed s a .state) letters)
+    replyText (feed s a .reply)
+    ++ cond (isRefusal (feed s a .reply)) (ending (feed s a .state)) (walkText feed ending (feed s a .state) letters)
 
 -- The same of the plain walk, of which the state is the list of letters taken.
 abbrev pub plainOpen : Semiautomaton → ℕ → List ℕ → List ℕ
@@ -80,5 +81,6 @@ countsOf h = countsLine (h .n) (h .m) (h .p) (h .e)
 pub data Reports (input : List ℕ) : List ℕ → Type 0 where
   no-plan : noPlan input ≡ true → Reports input (refusedLine 1)
   ill-formed : noPlan input ≡ false → ¬ WellFormed (planOf input) → Reports input (refusedLine (refusal (planOf input)))
-  well-formed : noPlan input ≡ false → WellFormed (planOf input) → {text : List ℕ} → AfterCounts (meaning (planOf input)) (lettersOf input) text
+  well-formed : noPlan input ≡ false → WellFormed (planOf input) → {text : List ℕ}
+      → AfterCounts (meaning (planOf input)) (lettersOf input) text
       → Reports input (countsOf (headerOf (planOf input)) ++ text)

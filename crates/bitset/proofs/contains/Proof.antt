@@ -7,9 +7,6 @@ use Rattle.bitset.proofs.Bits.{has-test, has-high}
 use Rattle.bitset.proofs.contains.Statement.{statement}
 use Rattle.bitset.proofs.contains.Tie as tie
 
-shr-result : tie.Need-shr-result
-shr-result c = search needs
-
 returns : tie.Need-returns
 returns c = has-test _ _
 
@@ -17,4 +14,4 @@ returns-2 : tie.Need-returns-2
 returns-2 c = le-ltb _ 64 (c .if1 .left) ∙ sym (has-high 64 _ _ (c .before .fits .set .fits) (c .if1 .left))
 
 pub contains-spec : {M : Type 1} → statement M
-contains-spec = tie.close (tie.spec shr-result returns returns-2)
+contains-spec = tie.close (tie.spec (λ c. search needs) returns returns-2)

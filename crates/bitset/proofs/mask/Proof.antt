@@ -10,9 +10,6 @@ use Rattle.bitset.proofs.Bits.{setOf-cong, mask-setOf, shl-one}
 use Rattle.bitset.proofs.mask.Statement.{statement}
 use Rattle.bitset.proofs.mask.Tie as tie
 
-shl-result : tie.Need-shl-result
-shl-result c = search needs
-
 sub-result : tie.Need-sub-result
 sub-result c = rw (shl-one 64 _ (c .if1 .left)) (omega (arith, pow-pos (c .before .args .n)))
 
@@ -23,4 +20,4 @@ returns-2 : tie.Need-returns-2
 returns-2 c = rw (shl-one 64 _ (c .if1 .left)) (mask-setOf 64 _ (le-of-lt (c .if1 .left)))
 
 pub mask-spec : {M : Type 1} → statement M
-mask-spec = tie.close (tie.spec shl-result sub-result returns returns-2)
+mask-spec = tie.close (tie.spec (λ c. search needs) sub-result returns returns-2)

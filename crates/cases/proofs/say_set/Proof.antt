@@ -12,9 +12,6 @@ Inv-loop set s₀ t3 s = s ≤ 64
 abbrev μ-loop : tie.MeasureT-loop
 μ-loop set s₀ t3 s = 64 - s
 
-loop-holds : tie.Need-loop-holds Inv-loop μ-loop
-loop-holds c = omega arith
-
 contains-requires : tie.Need-contains-requires Inv-loop μ-loop
 contains-requires c κs = tt
 
@@ -27,15 +24,6 @@ cast-say-number c = omega (arith, c .before .before .before .loop-test .taken)
 say-number-requires : tie.Need-say-number-requires Inv-loop μ-loop
 say-number-requires c κs = tt
 
-add-s : tie.Need-add-s Inv-loop μ-loop
-add-s c = omega arith
-
-loop-less : tie.Need-loop-less Inv-loop μ-loop
-loop-less c = omega arith
-
-loop-again : tie.Need-loop-again Inv-loop μ-loop
-loop-again c = omega arith
-
 returns : tie.Need-returns Inv-loop μ-loop
 returns c = tt
 
@@ -45,12 +33,12 @@ say-set-spec =
     (tie.spec
     Inv-loop
     μ-loop
-    loop-holds
+    (λ c. omega arith)
     contains-requires
     slice-aggregate-say-number
     cast-say-number
     say-number-requires
-    add-s
-    loop-less
-    loop-again
+    (λ c. omega arith)
+    (λ c. omega arith)
+    (λ c. omega arith)
     returns)

@@ -10,20 +10,8 @@ use Rattle.claim.proofs.check.Tie as tie
 load-requires : tie.Need-load-requires
 load-requires c κs = blank
 
-enum-known-loaded : tie.Need-enum-known-loaded
-enum-known-loaded c = search needs
-
-enum-known-loaded-2 : tie.Need-enum-known-loaded-2
-enum-known-loaded-2 c = search needs
-
 slice-aggregate-is-true : tie.Need-slice-aggregate-is-true
 slice-aggregate-is-true c = let l = c .before .before in sym ((rw (l .loaded2 .given .1) at (l .before .before .load .ensures)) .3)
-
-cast-is-true : tie.Need-cast-is-true
-cast-is-true c = search needs
-
-cast-is-true-2 : tie.Need-cast-is-true-2
-cast-is-true-2 c = search needs
 
 is-true-requires : tie.Need-is-true-requires
 is-true-requires c κs =
@@ -51,11 +39,11 @@ check-spec =
     tie.close
     (tie.spec
     load-requires
-    enum-known-loaded
-    enum-known-loaded-2
+    (λ c. search needs)
+    (λ c. search needs)
     slice-aggregate-is-true
-    cast-is-true
-    cast-is-true-2
+    (λ c. search needs)
+    (λ c. search needs)
     is-true-requires
     returns
     returns-2

@@ -39,7 +39,8 @@ returns : tie.Need-returns Inv-loop μ-loop
 returns c =
     let t = c .before .before in
     let f = t .before .before .before .before .pre .0 in
-    led-yes f _ _ (passed-hit (t .before .loop .inv .0) (some t) _ (back-hit f _ (small t) (c .before .reach-by .ensures 0) (c .if1 .taken)))
+    led-yes f _ _ (passed-hit (t .before .loop .inv .0) (some t) _
+    (back-hit f _ (small t) (c .before .reach-by .ensures 0) (c .if1 .taken)))
 
 sub-rest : tie.Need-sub-rest Inv-loop μ-loop
 sub-rest c = some (c .before .before)
@@ -51,8 +52,11 @@ loop-again : tie.Need-loop-again Inv-loop μ-loop
 loop-again c =
     let t = c .before .before in
     let i = t .before .loop .inv in
-    let f = t .before .before .before .before .pre .0 in
-    (left-next (i .0) (some t), passed-next (i .0) (some t) (back-miss f _ (small t) (c .before .reach-by .ensures 0) (c .if1 .left)) (i .1))
+    let f = t .before .before .before .before .pre .0 in (
+      left-next (i .0) (some t),
+      passed-next (i .0) (some t) (back-miss f _ (small t) (c .before .reach-by .ensures 0) (c .if1 .left))
+          (i .1),
+    )
 
 returns-2 : tie.Need-returns-2 Inv-loop μ-loop
 returns-2 c =

@@ -6,9 +6,6 @@ use Rattle.claim.proofs.Claims.{one-lt, loops}
 use Rattle.claim.proofs.has_lasso.Statement.{statement}
 use Rattle.claim.proofs.has_lasso.Tie as tie
 
-singleton-requires : tie.Need-singleton-requires
-singleton-requires c κs = search needs
-
 reach-by-requires : tie.Need-reach-by-requires
 reach-by-requires c κs =
     let p = c .before .before .before .before .pre in
@@ -25,4 +22,4 @@ returns c =
     loops (p .0) (p .1) (c .before .before .singleton .ensures) _ _ (c .before .reach-by .ensures) (c .comes-back .ensures)
 
 pub has-lasso-spec : {M : Type 1} → statement M
-has-lasso-spec = tie.close (tie.spec singleton-requires reach-by-requires comes-back-requires returns)
+has-lasso-spec = tie.close (tie.spec (λ c κs. search needs) reach-by-requires comes-back-requires returns)

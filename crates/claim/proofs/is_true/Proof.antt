@@ -13,21 +13,13 @@ use Rattle.semiautomata.specs.Semiautomaton.{Within}
 use Rattle.semiautomata.specs.Successors.{successors}
 use Rattle.semiautomata.proofs.Successors.{fit-within}
 use Rattle.walks.proofs.Letters.{letters-below, letters-stray}
-use Rattle.claim.proofs.Claims.{stem-length, word-letters, claimed-lengths, claimed-letters, claimed-states, states-lt, claimed-answer, lengths-there}
+use Rattle.claim.proofs.Claims.{stem-length, word-letters, lengths-there}
+use Rattle.claim.proofs.Claims.{claimed-lengths, claimed-letters, claimed-states, states-lt, claimed-answer}
 use Rattle.claim.proofs.is_true.Statement.{statement}
 use Rattle.claim.proofs.is_true.Tie as tie
 
 within : (c : tie.Start) → Within (successors (c .args .n) (c .args .m) (c .args .starts) (now (c .args .sets)))
 within c = fit-within _ _ _ _ (c .pre .0) (c .pre .1)
-
-set-named-requires : tie.Need-set-named-requires
-set-named-requires c κs = search needs
-
-contains-requires : tie.Need-contains-requires
-contains-requires c κs = search needs
-
-contains-requires-2 : tie.Need-contains-requires-2
-contains-requires-2 c κs = search needs
 
 returns : tie.Need-returns
 returns c =
@@ -35,17 +27,9 @@ returns c =
     let n = t .before .before in
     let s = n .before .before .before in (
       λ e. absurd (false≢true e),
-      λ _ k. true≢false (sym (c .if1 .taken) ∙ claimed-states (within s) (s .args .claim) _ (n .set-named .ensures) (t .before .contains .ensures) (t .contains2 .ensures) k),
+      λ _ k. true≢false (sym (c .if1 .taken) ∙ claimed-states (within s) (s .args .claim) _ (n .set-named .ensures)
+          (t .before .contains .ensures) (t .contains2 .ensures) k),
     )
-
-cast-stem : tie.Need-cast-stem
-cast-stem c = search needs
-
-cast-cycle : tie.Need-cast-cycle
-cast-cycle c = search needs
-
-add-end : tie.Need-add-end
-add-end c = search needs
 
 mul-if2 : tie.Need-mul-if2
 mul-if2 c = let f = c .before .before .before .before .before .before .before .before .pre .0 .states in omega (arith, mul-le-mul f f)
@@ -66,14 +50,12 @@ there c = lengths-there (start c .args .n) (start c .args .claim) (now (start c 
 slice-aggregate-letter-off : tie.Need-slice-aggregate-letter-off
 slice-aggregate-letter-off c = sym (length-take-le _ (now (start (c .before) .args .letters)) (there (c .before)))
 
-letter-off-requires : tie.Need-letter-off-requires
-letter-off-requires c κs = search needs
-
 returns-3 : tie.Need-returns-3
 returns-3 c =
     let s = start (c .before .before .before) in (
       λ e. absurd (false≢true e),
-      λ _ k. letters-stray _ _ (sym (c .before .letter-off .ensures) ∙ c .if3 .taken) (claimed-letters (within s) (s .args .claim) (now (s .args .letters)) k),
+      λ _ k. letters-stray _ _ (sym (c .before .letter-off .ensures) ∙ c .if3 .taken)
+          (claimed-letters (within s) (s .args .claim) (now (s .args .letters)) k),
     )
 
 stem-long : (c : tie.Else2) → start c .args .claim .stem ≡ length (take (start c .args .claim .stem) (now (start c .args .letters)))
@@ -83,16 +65,11 @@ both-lt : (c : tie.Else2) → (start c .args .claim .low < start c .args .n) × 
 both-lt c =
     let e = c .before .before .before in
     let s = start c in
-    states-lt (within s) (s .args .claim) (now (s .args .letters)) (e .before .before .before .set-named .ensures) (e .before .before .contains .ensures) (e .before .contains2 .ensures) (e .if1 .left)
+    states-lt (within s) (s .args .claim) (now (s .args .letters)) (e .before .before .before .set-named .ensures)
+    (e .before .before .contains .ensures) (e .before .contains2 .ensures) (e .if1 .left)
 
 slice-aggregate-has-lasso : tie.Need-slice-aggregate-has-lasso
 slice-aggregate-has-lasso c = stem-long (c .before .before .before .before)
-
-sub-has-lasso : tie.Need-sub-has-lasso
-sub-has-lasso c = search needs
-
-part-has-lasso-start : tie.Need-part-has-lasso-start
-part-has-lasso-start c = search needs
 
 part-has-lasso-end : tie.Need-part-has-lasso-end
 part-has-lasso-end c = there (c .before .before .before .before)
@@ -102,17 +79,12 @@ has-lasso-requires c κs =
     let t = c .before .before in
     let b = t .before .before .before in
     let s = start b in
-    let (stem, cycle) = word-letters (s .args .claim) (now (s .args .letters)) (there b) (letters-below _ _ (sym (t .before .letter-off .ensures) ∙ t .if3 .left)) in
+    let (stem, cycle) = word-letters (s .args .claim) (now (s .args .letters)) (there b)
+    (letters-below _ _ (sym (t .before .letter-off .ensures) ∙ t .if3 .left)) in
     (s .pre .0, both-lt b .0, stem, cycle)
 
 slice-aggregate-has-lasso-2 : tie.Need-slice-aggregate-has-lasso-2
 slice-aggregate-has-lasso-2 c = stem-long (c .before .before .before .before .before .before .before)
-
-sub-has-lasso-2 : tie.Need-sub-has-lasso-2
-sub-has-lasso-2 c = search needs
-
-part-has-lasso-start-2 : tie.Need-part-has-lasso-start-2
-part-has-lasso-start-2 c = search needs
 
 part-has-lasso-end-2 : tie.Need-part-has-lasso-end-2
 part-has-lasso-end-2 c = there (c .before .before .before .before .before .before .before)
@@ -122,7 +94,8 @@ has-lasso-requires-2 c κs =
     let t = c .before .before .before .before .before in
     let b = t .before .before .before in
     let s = start b in
-    let (stem, cycle) = word-letters (s .args .claim) (now (s .args .letters)) (there b) (letters-below _ _ (sym (t .before .letter-off .ensures) ∙ t .if3 .left)) in
+    let (stem, cycle) = word-letters (s .args .claim) (now (s .args .letters)) (there b)
+    (letters-below _ _ (sym (t .before .letter-off .ensures) ∙ t .if3 .left)) in
     (s .pre .0, both-lt b .1, stem, cycle)
 
 returns-4 : tie.Need-returns-4
@@ -130,33 +103,35 @@ returns-4 c =
     let t = c .before .before .before .before .before .before .before .before .before in
     let e = t .before .before .before in
     let s = start t in
-    claimed-answer (within s) (s .args .claim) (now (s .args .letters)) (e .before .before .before .set-named .ensures) (e .before .before .contains .ensures) (e .before .contains2 .ensures)
-    (e .if1 .left) (t .if2 .left) (c .before .before .before .has-lasso .ensures (s .args .starts)) (c .has-lasso2 .ensures (s .args .starts))
+    claimed-answer (within s) (s .args .claim) (now (s .args .letters)) (e .before .before .before .set-named .ensures)
+    (e .before .before .contains .ensures) (e .before .contains2 .ensures)
+    (e .if1 .left) (t .if2 .left) (c .before .before .before .has-lasso .ensures (s .args .starts))
+    (c .has-lasso2 .ensures (s .args .starts))
 
 pub is-true-spec : {M : Type 1} → statement M
 is-true-spec =
     tie.close
     (tie.spec
-    set-named-requires
-    contains-requires
-    contains-requires-2
+    (λ c κs. search needs)
+    (λ c κs. search needs)
+    (λ c κs. search needs)
     returns
-    cast-stem
-    cast-cycle
-    add-end
+    (λ c. search needs)
+    (λ c. search needs)
+    (λ c. search needs)
     mul-if2
     returns-2
     slice-aggregate-letter-off
-    letter-off-requires
+    (λ c κs. search needs)
     returns-3
     slice-aggregate-has-lasso
-    sub-has-lasso
-    part-has-lasso-start
+    (λ c. search needs)
+    (λ c. search needs)
     part-has-lasso-end
     has-lasso-requires
     slice-aggregate-has-lasso-2
-    sub-has-lasso-2
-    part-has-lasso-start-2
+    (λ c. search needs)
+    (λ c. search needs)
     part-has-lasso-end-2
     has-lasso-requires-2
     returns-4)

@@ -21,14 +21,17 @@ returns-2 c =
     named-none (a .n) (a .m) (a .starts) (now (a .sets)) (a .state) (a .letter) (c .before .if1 .left) (c .if2 .taken)
 
 module _ (c : tie.Else2) where
-  both : (c .before .before .args .state < c .before .before .args .n) × (c .before .before .args .letter < c .before .before .args .m)
-  both = on-plan (c .before .before .args .n) (c .before .before .args .m) 0 (now (c .before .before .args .sets)) (c .before .before .args .state) (c .before .before .args .letter) (c .if2 .left)
+  abbrev s : tie.Start
+  s = c .before .before
 
-  inside : place (c .before .before .args .m) (c .before .before .args .state) (c .before .before .args .letter) < c .before .before .args .n * c .before .before .args .m
+  both : (s .args .state < s .args .n) × (s .args .letter < s .args .m)
+  both = on-plan (s .args .n) (s .args .m) 0 (now (s .args .sets)) (s .args .state) (s .args .letter) (c .if2 .left)
+
+  inside : place (s .args .m) (s .args .state) (s .args .letter) < s .args .n * s .args .m
   inside = place-lt _ _ _ _ (both .0) (both .1)
 
-  few : c .before .before .args .n * c .before .before .args .m ≤ 2048
-  few = room (c .before .before .pre .0 .states) (c .before .before .pre .0 .letters)
+  few : s .args .n * s .args .m ≤ 2048
+  few = room (s .pre .0 .states) (s .pre .0 .letters)
 
 mul-result : tie.Need-mul-result
 mul-result c = omega (arith, inside c, few c)
@@ -46,7 +49,8 @@ returns-3 : tie.Need-returns-3
 returns-3 c =
     let s = c .before .before .before in
     let a = s .args in
-    named-fork (a .n) (a .m) (a .starts) (now (a .sets)) (a .state) (a .letter) (c .before .before .if1 .left) (s .pre .0) (both (c .before) .0) (both (c .before) .1)
+    named-fork (a .n) (a .m) (a .starts) (now (a .sets)) (a .state) (a .letter) (c .before .before .if1 .left) (s .pre .0)
+    (both (c .before) .0) (both (c .before) .1)
 
 pub set-named-spec : {M : Type 1} → statement M
 set-named-spec =

@@ -8,6 +8,8 @@ use mathlib.Core.List.{List}
 use Rattle.bitset.specs.Numbers.{has, setOf}
 use Rattle.semiautomata.specs.Semiautomaton.{Semiautomaton, Path}
 use Rattle.semiautomata.specs.Predictability.{Critical, member, named, Lasso}
+use Rattle.lookahead.specs.declared.Evidence.{Evidence}
+use Rattle.lookahead.specs.Answers.{TrueOf}
 
 -- The number is the set that two numbers name; 0 where they name none.
 pub record NamedSet (S : Semiautomaton) (q a set : ℕ) : Type 0 where
@@ -18,6 +20,10 @@ pub record NamedSet (S : Semiautomaton) (q a set : ℕ) : Type 0 where
 pub record LedBack (S : Semiautomaton) (set : ℕ) (cycle : List ℕ) (r : Bool) : Type 0 where
   pub yes-so : r ≡ true → (x : ℕ) × (has set x ≡ true) × Path S x cycle x
   pub no-so : r ≡ false → (x : ℕ) → has set x ≡ true → ¬ Path S x cycle x
+
+-- The answer says whether the claim is true of S.
+abbrev pub Truth : Semiautomaton → Evidence → List ℕ → Bool → Type 0
+Truth S c letters r = (r ≡ true → TrueOf S c letters) × (r ≡ false → ¬ TrueOf S c letters)
 
 -- The answer says whether some state is reached from s by the stem and led back to itself by the cycle.
 pub record Loops (S : Semiautomaton) (s : ℕ) (stem cycle : List ℕ) (r : Bool) : Type 0 where

@@ -6,47 +6,35 @@ use borrow.Author.Needs.{needs}
 use Rattle.gawherino.proofs.gawherino_check.Statement.{statement}
 use Rattle.gawherino.proofs.gawherino_check.Tie as tie
 
-claim-of-requires : tie.Need-claim-of-requires
-claim-of-requires c κs = search needs
-
-check-requires : tie.Need-check-requires
-check-requires c κs = search needs
-
 enum-told : tie.Need-enum-told
 enum-told c = search needs
 
-enum-told-2 : tie.Need-enum-told-2
-enum-told-2 c = search needs
-
-enum-known-checked : tie.Need-enum-known-checked
-enum-known-checked c = search needs
-
-cast-result : tie.Need-cast-result
-cast-result c = search needs
-
-add-result : tie.Need-add-result
-add-result c = search needs
-
 returns : tie.Need-returns
-returns c = let a = c .before .before .before .before .before .before .before .args in passes-check (asked (a .plan .now)) (a .claim .now) (a .letters .now) (c .before .before .before .claim-of .ensures) (c .before .before .check .result) (c .before .before .check .ensures) (rw (c .enum-told .given .1))
+returns c = let a = c .before .before .before .before .before .before .before .args in
+    passes-check (asked (a .plan .now)) (a .claim .now) (a .letters .now) (c .before .before .before .claim-of .ensures)
+    (c .before .before .check .result) (c .before .before .check .ensures) (rw (c .enum-told .given .1))
 
 returns-2 : tie.Need-returns-2
-returns-2 c = let a = c .before .before .before .before .before .before .before .args in passes-check (asked (a .plan .now)) (a .claim .now) (a .letters .now) (c .before .before .before .claim-of .ensures) (c .before .before .check .result) (c .before .before .check .ensures) (rw (c .enum-told2 .given .1))
+returns-2 c = let a = c .before .before .before .before .before .before .before .args in
+    passes-check (asked (a .plan .now)) (a .claim .now) (a .letters .now) (c .before .before .before .claim-of .ensures)
+    (c .before .before .check .result) (c .before .before .check .ensures) (rw (c .enum-told2 .given .1))
 
 returns-3 : tie.Need-returns-3
-returns-3 c = let a = c .before .before .before .before .before .before .before .before .args in passes-check (asked (a .plan .now)) (a .claim .now) (a .letters .now) (c .before .before .before .before .claim-of .ensures) (c .before .before .before .check .result) (c .before .before .before .check .ensures) (rw (c .before .checked .given .1))
+returns-3 c = let a = c .before .before .before .before .before .before .before .before .args in
+    passes-check (asked (a .plan .now)) (a .claim .now) (a .letters .now) (c .before .before .before .before .claim-of .ensures)
+    (c .before .before .before .check .result) (c .before .before .before .check .ensures) (rw (c .before .checked .given .1))
 
 pub gawherino-check-spec : {M : Type 1} → statement M
 gawherino-check-spec =
     tie.close
     (tie.spec
-    claim-of-requires
-    check-requires
+    (λ c κs. search needs)
+    (λ c κs. search needs)
     enum-told
-    enum-told-2
-    enum-known-checked
-    cast-result
-    add-result
+    (λ c. search needs)
+    (λ c. search needs)
+    (λ c. search needs)
+    (λ c. search needs)
     returns
     returns-2
     returns-3)

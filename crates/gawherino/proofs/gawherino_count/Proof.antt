@@ -14,15 +14,6 @@ use borrow.Author.Needs.{needs}
 use Rattle.gawherino.proofs.gawherino_count.Statement.{statement}
 use Rattle.gawherino.proofs.gawherino_count.Tie as tie
 
-slice-aggregate-count : tie.Need-slice-aggregate-count
-slice-aggregate-count c = search needs
-
-count-requires : tie.Need-count-requires
-count-requires c κs = search needs
-
-enum-known-counted : tie.Need-enum-known-counted
-enum-known-counted c = search needs
-
 cast-result : tie.Need-cast-result
 cast-result c =
     let n = c .before .before .before .before in
@@ -30,20 +21,8 @@ cast-result c =
     let ((q, a), _) = rw (c .before .counted .given .1) at (n .count .ensures) in
     omega (arith, small (asked-proper p .sized (clear-passes (asked p) (asked-proper p) _ q)) _ a)
 
-enum-known-counted-2 : tie.Need-enum-known-counted-2
-enum-known-counted-2 c = search needs
-
-cast-result-2 : tie.Need-cast-result-2
-cast-result-2 c = search needs
-
-add-result : tie.Need-add-result
-add-result c = search needs
-
 enum-told : tie.Need-enum-told
 enum-told c = search needs
-
-add-result-2 : tie.Need-add-result-2
-add-result-2 c = search needs
 
 returns : tie.Need-returns
 returns c =
@@ -70,15 +49,15 @@ pub gawherino-count-spec : {M : Type 1} → statement M
 gawherino-count-spec =
     tie.close
     (tie.spec
-    slice-aggregate-count
-    count-requires
-    enum-known-counted
+    (λ c. search needs)
+    (λ c κs. search needs)
+    (λ c. search needs)
     cast-result
-    enum-known-counted-2
-    cast-result-2
-    add-result
+    (λ c. search needs)
+    (λ c. search needs)
+    (λ c. search needs)
     enum-told
-    add-result-2
+    (λ c. search needs)
     returns
     returns-2
     returns-3)

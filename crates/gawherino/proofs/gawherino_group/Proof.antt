@@ -11,23 +11,8 @@ use Rattle.gawherino.proofs.gawherino_group.Tie as tie
 returns : tie.Need-returns
 returns c = ap groupNumber (nobody-high (c .before .args .refusal) (omega arith))
 
-cast-group-of : tie.Need-cast-group-of
-cast-group-of c = search needs
-
-group-of-requires : tie.Need-group-of-requires
-group-of-requires c κs = search needs
-
 enum-told : tie.Need-enum-told
 enum-told c = search needs
-
-enum-told-2 : tie.Need-enum-told-2
-enum-told-2 c = search needs
-
-enum-told-3 : tie.Need-enum-told-3
-enum-told-3 c = search needs
-
-enum-told-4 : tie.Need-enum-told-4
-enum-told-4 c = search needs
 
 returns-2 : tie.Need-returns-2
 returns-2 c = ap groupNumber (sym (c .enum-told .given .1) ∙ c .before .before .group-of .ensures)
@@ -46,12 +31,12 @@ gawherino-group-spec =
     tie.close
     (tie.spec
     returns
-    cast-group-of
-    group-of-requires
+    (λ c. search needs)
+    (λ c κs. search needs)
     enum-told
-    enum-told-2
-    enum-told-3
-    enum-told-4
+    (λ c. search needs)
+    (λ c. search needs)
+    (λ c. search needs)
     returns-2
     returns-3
     returns-4

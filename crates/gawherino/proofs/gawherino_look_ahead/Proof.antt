@@ -10,35 +10,31 @@ use borrow.Author.Needs.{needs}
 use Rattle.gawherino.proofs.gawherino_look_ahead.Statement.{statement}
 use Rattle.gawherino.proofs.gawherino_look_ahead.Tie as tie
 
-no-room-on-plan-requires : tie.Need-no-room-on-plan-requires
-no-room-on-plan-requires c κs = search needs
-
 returns : tie.Need-returns
 returns c = refuses (omega arith) (c .no-room-on-plan .ensures) refl refl
 
-count-requires : tie.Need-count-requires
-count-requires c κs = search needs
-
 pass-prepared-requires : tie.Need-pass-prepared-requires
-pass-prepared-requires c κs = (counts-fit (asked (c .before .before .before .before .before .before .before .before .before .args .plan .now)) (asked-proper (c .before .before .before .before .before .before .before .before .before .args .plan .now)) (c .before .before .before .count .result) (c .before .before .before .before .before .before .before .before .before .args .letters .now) _ (c .before .before .before .count .ensures), omega arith)
-
-same-length : tie.Need-same-length
-same-length c = search needs
-
-same-length-2 : tie.Need-same-length-2
-same-length-2 c = search needs
+pass-prepared-requires c κs = (
+  counts-fit (asked (c .before .before .before .before .before .before .before .before .before .args .plan .now))
+      (asked-proper (c .before .before .before .before .before .before .before .before .before .args .plan .now))
+      (c .before .before .before .count .result)
+      (c .before .before .before .before .before .before .before .before .before .args .letters .now) _
+      (c .before .before .before .count .ensures),
+  omega arith,
+)
 
 returns-2 : tie.Need-returns-2
-returns-2 c = answers (omega arith) (c .before .before .before .before .before .before .count .result) (c .before .before .before .before .before .before .count .ensures) (c .before .before .pass-prepared .ensures)
+returns-2 c = answers (omega arith) (c .before .before .before .before .before .before .count .result)
+    (c .before .before .before .before .before .before .count .ensures) (c .before .before .pass-prepared .ensures)
 
 pub gawherino-look-ahead-spec : {M : Type 1} → statement M
 gawherino-look-ahead-spec =
     tie.close
     (tie.spec
-    no-room-on-plan-requires
+    (λ c κs. search needs)
     returns
-    count-requires
+    (λ c κs. search needs)
     pass-prepared-requires
-    same-length
-    same-length-2
+    (λ c. search needs)
+    (λ c. search needs)
     returns-2)

@@ -7,35 +7,21 @@ use borrow.Author.Needs.{needs}
 use Rattle.gawherino.proofs.gawherino_open.Statement.{statement}
 use Rattle.gawherino.proofs.gawherino_open.Tie as tie
 
-no-room-on-table-requires : tie.Need-no-room-on-table-requires
-no-room-on-table-requires c κs = search needs
-
 returns : tie.Need-returns
 returns c = refuses (omega arith) (c .no-room-on-table .ensures) refl refl
 
-open-requires : tie.Need-open-requires
-open-requires c κs = search needs
-
-pass-answer-requires : tie.Need-pass-answer-requires
-pass-answer-requires c κs = search needs
-
-same-length : tie.Need-same-length
-same-length c = search needs
-
-same-length-2 : tie.Need-same-length-2
-same-length-2 c = search needs
-
 returns-2 : tie.Need-returns-2
-returns-2 c = answers (omega arith) (c .before .before .before .before .before .before .«open» .result) (c .before .before .before .before .before .before .«open» .ensures) (c .before .before .pass-answer .ensures)
+returns-2 c = answers (omega arith) (c .before .before .before .before .before .before .«open» .result)
+    (c .before .before .before .before .before .before .«open» .ensures) (c .before .before .pass-answer .ensures)
 
 pub gawherino-open-spec : {M : Type 1} → statement M
 gawherino-open-spec =
     tie.close
     (tie.spec
-    no-room-on-table-requires
+    (λ c κs. search needs)
     returns
-    open-requires
-    pass-answer-requires
-    same-length
-    same-length-2
+    (λ c κs. search needs)
+    (λ c κs. search needs)
+    (λ c. search needs)
+    (λ c. search needs)
     returns-2)

@@ -10,39 +10,26 @@ use borrow.Author.Needs.{needs}
 use Rattle.gawherino.proofs.gawherino_prepare.Statement.{statement}
 use Rattle.gawherino.proofs.gawherino_prepare.Tie as tie
 
-no-room-on-plan-requires : tie.Need-no-room-on-plan-requires
-no-room-on-plan-requires c κs = search needs
-
 returns : tie.Need-returns
 returns c = refuses (omega arith) (c .no-room-on-plan .ensures) refl (refl, refl)
 
-prepare-requires : tie.Need-prepare-requires
-prepare-requires c κs = search needs
-
 pass-prepared-requires : tie.Need-pass-prepared-requires
-pass-prepared-requires c κs = (prepares-fit (asked (c .before .before .before .before .before .before .before .before .before .before .before .before .before .args .plan .now)) (asked-proper (c .before .before .before .before .before .before .before .before .before .before .before .before .before .args .plan .now)) (c .before .before .before .before .before .prepare .result) (c .before .before .before .before .before .before .before .before .before .before .before .before .before .args .table .now) _ (c .before .before .before .before .before .before .before .before .before .before .before .before .before .args .letters .now) _ (c .before .before .before .before .before .prepare .ensures), omega arith)
-
-same-length : tie.Need-same-length
-same-length c = search needs
-
-same-length-2 : tie.Need-same-length-2
-same-length-2 c = search needs
-
-same-length-3 : tie.Need-same-length-3
-same-length-3 c = search needs
+pass-prepared-requires c κs =
+    (prepares-fit (asked (c .before .before .before .before .before .before .before .before .before .before .before .before .before .args .plan .now)) (asked-proper (c .before .before .before .before .before .before .before .before .before .before .before .before .before .args .plan .now)) (c .before .before .before .before .before .prepare .result) (c .before .before .before .before .before .before .before .before .before .before .before .before .before .args .table .now) _ (c .before .before .before .before .before .before .before .before .before .before .before .before .before .args .letters .now) _ (c .before .before .before .before .before .prepare .ensures), omega arith)
 
 returns-2 : tie.Need-returns-2
-returns-2 c = answers (omega arith) (c .before .before .before .before .before .before .before .before .prepare .result) (c .before .before .before .before .before .before .before .before .prepare .ensures) (c .before .before .pass-prepared .ensures)
+returns-2 c = answers (omega arith) (c .before .before .before .before .before .before .before .before .prepare .result)
+    (c .before .before .before .before .before .before .before .before .prepare .ensures) (c .before .before .pass-prepared .ensures)
 
 pub gawherino-prepare-spec : {M : Type 1} → statement M
 gawherino-prepare-spec =
     tie.close
     (tie.spec
-    no-room-on-plan-requires
+    (λ c κs. search needs)
     returns
-    prepare-requires
+    (λ c κs. search needs)
     pass-prepared-requires
-    same-length
-    same-length-2
-    same-length-3
+    (λ c. search needs)
+    (λ c. search needs)
+    (λ c. search needs)
     returns-2)

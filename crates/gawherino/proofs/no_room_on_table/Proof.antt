@@ -7,15 +7,6 @@ use Rattle.table.proofs.Heads.{head-unfit}
 use Rattle.gawherino.proofs.no_room_on_table.Statement.{statement}
 use Rattle.gawherino.proofs.no_room_on_table.Tie as tie
 
-head-of-requires : tie.Need-head-of-requires
-head-of-requires c κs = search needs
-
-add-result : tie.Need-add-result
-add-result c = search needs
-
-add-result-2 : tie.Need-add-result-2
-add-result-2 c = search needs
-
 returns : tie.Need-returns
 returns c = rw (sym (head-unfit _ (c .before .head-of .ensures)) ∙ ap not (c .if1 .taken))
 
@@ -24,4 +15,4 @@ returns-2 c = rw (sym (head-unfit _ (c .before .head-of .ensures)) ∙ ap not (c
 
 pub no-room-on-table-spec : {M : Type 1} → statement M
 no-room-on-table-spec =
-    tie.close (tie.spec head-of-requires add-result add-result-2 returns returns-2)
+    tie.close (tie.spec (λ c κs. search needs) (λ c. search needs) (λ c. search needs) returns returns-2)

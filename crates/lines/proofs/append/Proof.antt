@@ -9,24 +9,6 @@ use Rattle.slices.proofs.Parts.{part-pasted}
 use Rattle.lines.proofs.append.Statement.{statement}
 use Rattle.lines.proofs.append.Tie as tie
 
-sub-copy-8 : tie.Need-sub-copy-8
-sub-copy-8 c = search needs
-
-part-copy-8-start : tie.Need-part-copy-8-start
-part-copy-8-start c = search needs
-
-part-copy-8-end : tie.Need-part-copy-8-end
-part-copy-8-end c = search needs
-
-copy-8-requires : tie.Need-copy-8-requires
-copy-8-requires c κs = search needs
-
-add-result : tie.Need-add-result
-add-result c = search needs
-
-same-length : tie.Need-same-length
-same-length c = search needs
-
 returns : tie.Need-returns
 returns c =
     let start = c .before .before .before .before .before .before in
@@ -42,10 +24,10 @@ pub append-spec : {M : Type 1} → statement M
 append-spec =
     tie.close
     (tie.spec
-    sub-copy-8
-    part-copy-8-start
-    part-copy-8-end
-    copy-8-requires
-    add-result
-    same-length
+    (λ c. search needs)
+    (λ c. search needs)
+    (λ c. search needs)
+    (λ c κs. search needs)
+    (λ c. search needs)
+    (λ c. search needs)
     returns)

@@ -55,41 +55,23 @@ put-4 : (c : tie.After-field4) → let s = from-1 (from-2 (from-3 (from-4 c))) i
     Appended (s .args .out .now) (s .args .at) (four s) (c .field4 .result) (c .field4 .last .0)
 put-4 c = appended-on (put-3 (from-4 c)) (c .field4 .ensures)
 
-slice-aggregate-field : tie.Need-slice-aggregate-field
-slice-aggregate-field c = search needs
-
 field-requires : tie.Need-field-requires
 field-requires c κs = room-left (one (c .before .before .before)) _ (room-2 (c .before .before .before))
-
-slice-aggregate-field-2 : tie.Need-slice-aggregate-field-2
-slice-aggregate-field-2 c = search needs
 
 field-requires-2 : tie.Need-field-requires-2
 field-requires-2 c κs = room-on (c .before .before .before .before .field .ensures) (room-2 (from-1 (c .before .before .before .before)))
 
-slice-aggregate-field-3 : tie.Need-slice-aggregate-field-3
-slice-aggregate-field-3 c = search needs
-
 field-requires-3 : tie.Need-field-requires-3
 field-requires-3 c κs = room-on (put-2 (c .before .before .before .before)) (room-3 (from-1 (from-2 (c .before .before .before .before))))
-
-slice-aggregate-field-4 : tie.Need-slice-aggregate-field-4
-slice-aggregate-field-4 c = search needs
 
 field-requires-4 : tie.Need-field-requires-4
 field-requires-4 c κs =
     room-on (put-3 (c .before .before .before .before)) (room-4 (from-1 (from-2 (from-3 (c .before .before .before .before)))))
 
-slice-aggregate-append : tie.Need-slice-aggregate-append
-slice-aggregate-append c = search needs
-
 append-requires : tie.Need-append-requires
 unfolding countsLine
 append-requires c κs =
     room-on (put-4 (c .before .before .before .before)) (from-1 (from-2 (from-3 (from-4 (c .before .before .before .before)))) .pre)
-
-same-length : tie.Need-same-length
-same-length c = search needs
 
 returns : tie.Need-returns
 unfolding countsLine
@@ -99,15 +81,15 @@ pub counts-spec : {M : Type 1} → statement M
 counts-spec =
     tie.close
     (tie.spec
-    slice-aggregate-field
+    (λ c. search needs)
     field-requires
-    slice-aggregate-field-2
+    (λ c. search needs)
     field-requires-2
-    slice-aggregate-field-3
+    (λ c. search needs)
     field-requires-3
-    slice-aggregate-field-4
+    (λ c. search needs)
     field-requires-4
-    slice-aggregate-append
+    (λ c. search needs)
     append-requires
-    same-length
+    (λ c. search needs)
     returns)

@@ -14,12 +14,9 @@ number-requires : tie.Need-number-requires
 unfolding field
 number-requires c κs = room-on (c .before .before .before .append .ensures) (c .before .before .before .before .before .before .before .pre)
 
-same-length : tie.Need-same-length
-same-length c = search needs
-
 returns : tie.Need-returns
 unfolding field
 returns c = appended-on (c .before .before .before .before .before .before .append .ensures) (c .before .before .number .ensures)
 
 pub field-spec : {M : Type 1} → statement M
-field-spec = tie.close (tie.spec append-requires number-requires same-length returns)
+field-spec = tie.close (tie.spec append-requires number-requires (λ c. search needs) returns)

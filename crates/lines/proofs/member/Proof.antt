@@ -7,19 +7,10 @@ use borrow.Author.Needs.{needs}
 use Rattle.lines.proofs.member.Statement.{statement}
 use Rattle.lines.proofs.member.Tie as tie
 
-contains-requires : tie.Need-contains-requires
-contains-requires c κs = search needs
-
-slice-aggregate-field : tie.Need-slice-aggregate-field
-slice-aggregate-field c = search needs
-
 field-requires : tie.Need-field-requires
 field-requires c κs =
     rw (sym (c .before .before .before .contains .ensures) ∙ c .before .before .if1 .taken) at
     (c .before .before .before .before .before .pre)
-
-same-length : tie.Need-same-length
-same-length c = search needs
 
 returns : tie.Need-returns
 returns c = rw (sym (c .before .before .before .before .before .before .contains .ensures)
@@ -32,4 +23,4 @@ returns-2 c = let s = c .before .before .before in
 pub member-spec : {M : Type 1} → statement M
 member-spec =
     tie.close
-    (tie.spec contains-requires slice-aggregate-field field-requires same-length returns returns-2)
+    (tie.spec (λ c κs. search needs) (λ c. search needs) field-requires (λ c. search needs) returns returns-2)

@@ -26,12 +26,6 @@ member-requires c κs = let i = c .before .before .loop in
     room-on (i .inv .1) (room-listed 64 (has (c .before .before .before .before .args .set)) (c .before .before .before .before .pre)
     (i .s) (omega arith))
 
-add-s : tie.Need-add-s Inv-loop μ-loop
-add-s c = omega arith
-
-loop-less : tie.Need-loop-less Inv-loop μ-loop
-loop-less c = omega arith
-
 loop-again : tie.Need-loop-again Inv-loop μ-loop
 unfolding listed
 loop-again c = (
@@ -54,8 +48,8 @@ members-spec =
     μ-loop
     loop-holds
     member-requires
-    add-s
-    loop-less
+    (λ c. omega arith)
+    (λ c. omega arith)
     loop-again
     same-length
     returns)

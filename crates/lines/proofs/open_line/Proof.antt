@@ -40,14 +40,8 @@ put-3 : (c : tie.After-members) → let s = from-1 (from-2 (from-3 c)) in
     Appended (s .args .out .now) (s .args .at) (three s) (c .members .result) (c .members .last .0)
 put-3 c = appended-on (put-2 (from-3 c)) (c .members .ensures)
 
-slice-aggregate-field : tie.Need-slice-aggregate-field
-slice-aggregate-field c = search needs
-
 field-requires : tie.Need-field-requires
 field-requires c κs = let s = c .before .before .before in room-left (field openWord (s .args .position)) stakesAre (room-2 s)
-
-slice-aggregate-append : tie.Need-slice-aggregate-append
-slice-aggregate-append c = search needs
 
 append-requires : tie.Need-append-requires
 append-requires c κs = room-on (c .before .before .before .before .field .ensures) (room-2 (from-1 (c .before .before .before .before)))
@@ -55,16 +49,10 @@ append-requires c κs = room-on (c .before .before .before .before .field .ensur
 members-requires : tie.Need-members-requires
 members-requires c κs = room-on (put-2 (c .before .before .before)) (room-3 (from-1 (from-2 (c .before .before .before))))
 
-slice-aggregate-append-2 : tie.Need-slice-aggregate-append-2
-slice-aggregate-append-2 c = search needs
-
 append-requires-2 : tie.Need-append-requires-2
 unfolding openLine
 append-requires-2 c κs =
     room-on (put-3 (c .before .before .before .before)) (from-1 (from-2 (from-3 (c .before .before .before .before))) .pre)
-
-same-length : tie.Need-same-length
-same-length c = search needs
 
 returns : tie.Need-returns
 unfolding openLine
@@ -74,12 +62,12 @@ pub open-line-spec : {M : Type 1} → statement M
 open-line-spec =
     tie.close
     (tie.spec
-    slice-aggregate-field
+    (λ c. search needs)
     field-requires
-    slice-aggregate-append
+    (λ c. search needs)
     append-requires
     members-requires
-    slice-aggregate-append-2
+    (λ c. search needs)
     append-requires-2
-    same-length
+    (λ c. search needs)
     returns)

@@ -18,15 +18,9 @@ put : (c : tie.After-group) → let s = c .before .before .before .before .befor
     (c .group .result) (c .group .last .0)
 put c = appended-on (c .before .before .before .before .before .field .ensures) (rw (c .before .group-of .ensures) at (c .group .ensures))
 
-slice-aggregate-field : tie.Need-slice-aggregate-field
-slice-aggregate-field c = search needs
-
 field-requires : tie.Need-field-requires
 field-requires c κs = let s = c .before .before .before in
     room-left (field refusedWord (s .args .number)) (groupWord (groupOf (s .args .number))) (both s)
-
-group-of-requires : tie.Need-group-of-requires
-group-of-requires c κs = search needs
 
 group-requires : tie.Need-group-requires
 group-requires c κs =
@@ -34,17 +28,11 @@ group-requires c κs =
     (room-on (c .before .before .before .before .field .ensures)
     (both (c .before .before .before .before .before .before .before .before)))
 
-slice-aggregate-append : tie.Need-slice-aggregate-append
-slice-aggregate-append c = search needs
-
 append-requires : tie.Need-append-requires
 unfolding refusedLine
 append-requires c κs =
     room-on (put (c .before .before .before .before))
     (c .before .before .before .before .before .before .before .before .before .before .before .before .before .pre)
-
-same-length : tie.Need-same-length
-same-length c = search needs
 
 returns : tie.Need-returns
 unfolding refusedLine
@@ -54,11 +42,11 @@ pub refused-spec : {M : Type 1} → statement M
 refused-spec =
     tie.close
     (tie.spec
-    slice-aggregate-field
+    (λ c. search needs)
     field-requires
-    group-of-requires
+    (λ c κs. search needs)
     group-requires
-    slice-aggregate-append
+    (λ c. search needs)
     append-requires
-    same-length
+    (λ c. search needs)
     returns)

@@ -14,7 +14,8 @@ use Rattle.plan.proofs.enter_lines.Statement.{statement}
 use Rattle.plan.proofs.enter_lines.Tie as tie
 
 abbrev Inv-loop : tie.InvT-loop
-Inv-loop plan h sets₀ n m e off₀ twice₀ i₀ sets off twice i = (i ≤ e) × LinesEntered (linesTo i (parsedBy h plan)) sets (record { off = off; twice = twice })
+Inv-loop plan h sets₀ n m e off₀ twice₀ i₀ sets off twice i =
+    (i ≤ e) × LinesEntered (linesTo i (parsedBy h plan)) sets (record { off = off; twice = twice })
 
 abbrev μ-loop : tie.MeasureT-loop
 μ-loop plan h sets₀ n m e off₀ twice₀ i₀ sets off twice i = e - i
@@ -37,56 +38,17 @@ line c = planOf (start (turn c)) .line (turn c .loop .i)
 inside : (c : tie.Else1 Inv-loop μ-loop) → (place (start (turn c) .args .h .m) (line c .from) (line c .letter) < 2048) × (line c .to < 64)
 inside c = let s = start (turn c) in place-in (planOf s) (s .pre .0 .states) (s .pre .0 .letters) (turn c .loop .inv .1) (c .if1 .left)
 
-cast-n : tie.Need-cast-n Inv-loop μ-loop
-cast-n c = search needs
-
-cast-m : tie.Need-cast-m Inv-loop μ-loop
-cast-m c = search needs
-
-cast-e : tie.Need-cast-e Inv-loop μ-loop
-cast-e c = search needs
-
 loop-holds : tie.Need-loop-holds Inv-loop μ-loop
 loop-holds c = (search needs, lines-none (planOf (c .before .before .before)) (c .before .before .before .pre .1))
-
-cast-at : tie.Need-cast-at Inv-loop μ-loop
-cast-at c = search needs
-
-mul-at : tie.Need-mul-at Inv-loop μ-loop
-mul-at c = search needs
-
-add-at : tie.Need-add-at Inv-loop μ-loop
-add-at c = search needs
-
-shared-slice-read-from : tie.Need-shared-slice-read-from Inv-loop μ-loop
-shared-slice-read-from c = search needs
 
 cast-from : tie.Need-cast-from Inv-loop μ-loop
 cast-from c = let l = c .before .before .before in omega (arith, c .shared-slice-known .given (at l))
 
-add-letter : tie.Need-add-letter Inv-loop μ-loop
-add-letter c = search needs
-
-shared-slice-read-letter : tie.Need-shared-slice-read-letter Inv-loop μ-loop
-shared-slice-read-letter c = search needs
-
 cast-letter : tie.Need-cast-letter Inv-loop μ-loop
 cast-letter c = let l = c .before .before .before .before in omega (arith, c .shared-slice-known2 .given (at l + 1))
 
-add-to : tie.Need-add-to Inv-loop μ-loop
-add-to c = search needs
-
-shared-slice-read-to : tie.Need-shared-slice-read-to Inv-loop μ-loop
-shared-slice-read-to c = search needs
-
 cast-to : tie.Need-cast-to Inv-loop μ-loop
 cast-to c = let l = c .before .before .before .before .before in omega (arith, c .shared-slice-known3 .given (at l + 2))
-
-add-i : tie.Need-add-i Inv-loop μ-loop
-add-i c = search needs
-
-loop-less : tie.Need-loop-less Inv-loop μ-loop
-loop-less c = search needs
 
 loop-again : tie.Need-loop-again Inv-loop μ-loop
 loop-again c =
@@ -118,12 +80,6 @@ mul-sets c = omega (arith, inside (c .before))
 element-write-sets : tie.Need-element-write-sets Inv-loop μ-loop
 element-write-sets c = omega (arith, inside (c .before))
 
-add-i-2 : tie.Need-add-i-2 Inv-loop μ-loop
-add-i-2 c = search needs
-
-loop-less-2 : tie.Need-loop-less-2 Inv-loop μ-loop
-loop-less-2 c = search needs
-
 loop-again-2 : tie.Need-loop-again-2 Inv-loop μ-loop
 loop-again-2 c =
     let l = turn (c .before) in
@@ -139,23 +95,23 @@ enter-lines-spec =
     (tie.spec
     Inv-loop
     μ-loop
-    cast-n
-    cast-m
-    cast-e
+    (λ c. search needs)
+    (λ c. search needs)
+    (λ c. search needs)
     loop-holds
-    cast-at
-    mul-at
-    add-at
-    shared-slice-read-from
+    (λ c. search needs)
+    (λ c. search needs)
+    (λ c. search needs)
+    (λ c. search needs)
     cast-from
-    add-letter
-    shared-slice-read-letter
+    (λ c. search needs)
+    (λ c. search needs)
     cast-letter
-    add-to
-    shared-slice-read-to
+    (λ c. search needs)
+    (λ c. search needs)
     cast-to
-    add-i
-    loop-less
+    (λ c. search needs)
+    (λ c. search needs)
     loop-again
     mul-place
     add-place
@@ -165,7 +121,7 @@ enter-lines-spec =
     shl-sets
     mul-sets
     element-write-sets
-    add-i-2
-    loop-less-2
+    (λ c. search needs)
+    (λ c. search needs)
     loop-again-2
     returns)

@@ -24,47 +24,20 @@ start c = c .before .before .before .before .before
 abbrev planOf : tie.Start Inv-loop μ-loop → Plan
 planOf s = parsedBy (s .args .h) (now (s .args .plan))
 
-cast-n : tie.Need-cast-n Inv-loop μ-loop
-cast-n c = search needs
-
-cast-p : tie.Need-cast-p Inv-loop μ-loop
-cast-p c = search needs
-
-mask-requires : tie.Need-mask-requires Inv-loop μ-loop
-mask-requires c κs = search needs
-
 loop-holds : tie.Need-loop-holds Inv-loop μ-loop
 loop-holds c = (search needs, starts-none (planOf (c .before .before .before .before)))
-
-cast-s : tie.Need-cast-s Inv-loop μ-loop
-cast-s c = search needs
-
-add-s : tie.Need-add-s Inv-loop μ-loop
-add-s c = search needs
-
-shared-slice-read-s : tie.Need-shared-slice-read-s Inv-loop μ-loop
-shared-slice-read-s c = search needs
 
 cast-s-2 : tie.Need-cast-s-2 Inv-loop μ-loop
 cast-s-2 c = let l = c .before .before .before in omega (arith, c .shared-slice-known2 .given (start l .args .h .starts + l .loop .i))
 
-contains-requires : tie.Need-contains-requires Inv-loop μ-loop
-contains-requires c κs = search needs
-
-singleton-requires : tie.Need-singleton-requires Inv-loop μ-loop
-singleton-requires c κs = search needs
-
-add-i : tie.Need-add-i Inv-loop μ-loop
-add-i c = search needs
-
-loop-less : tie.Need-loop-less Inv-loop μ-loop
-loop-less c = search needs
-
 loop-again : tie.Need-loop-again Inv-loop μ-loop
 loop-again c =
     let l = c .before .before .before .before .before in
-    let a = start l in
-    (search needs, starts-next (planOf a) (a .pre .states) (l .loop .inv .1) refl (c .singleton .ensures) (l .before .mask .ensures) (c .before .contains .ensures))
+    let a = start l in (
+      search needs,
+      starts-next (planOf a) (a .pre .states) (l .loop .inv .1) refl (c .singleton .ensures) (l .before .mask .ensures)
+          (c .before .contains .ensures),
+    )
 
 returns : tie.Need-returns Inv-loop μ-loop
 returns c = let e : c .before .loop .i ≡ start (c .before) .args .h .p = omega arith in rw e at (c .before .loop .inv .1)
@@ -75,17 +48,17 @@ enter-starts-spec =
     (tie.spec
     Inv-loop
     μ-loop
-    cast-n
-    cast-p
-    mask-requires
+    (λ c. search needs)
+    (λ c. search needs)
+    (λ c κs. search needs)
     loop-holds
-    cast-s
-    add-s
-    shared-slice-read-s
+    (λ c. search needs)
+    (λ c. search needs)
+    (λ c. search needs)
     cast-s-2
-    contains-requires
-    singleton-requires
-    add-i
-    loop-less
+    (λ c κs. search needs)
+    (λ c κs. search needs)
+    (λ c. search needs)
+    (λ c. search needs)
     loop-again
     returns)

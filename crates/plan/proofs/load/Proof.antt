@@ -13,12 +13,6 @@ use Rattle.plan.proofs.load.Tie as tie
 returns : tie.Need-returns
 returns c = (refused-short _ (c .if1 .taken), λ e. omega arith)
 
-header-of-requires : tie.Need-header-of-requires
-header-of-requires c κs = search needs
-
-header-refusal-requires : tie.Need-header-refusal-requires
-header-refusal-requires c κs = search needs
-
 returns-2 : tie.Need-returns-2
 returns-2 c = loads-header _ (c .before .before .header-of .ensures) (c .before .header-refusal .ensures) (c .if2 .taken)
 
@@ -34,21 +28,20 @@ enter-starts-requires c κs = sound c
 enter-lines-requires : tie.Need-enter-lines-requires
 enter-lines-requires c κs = let e = c .before .before in (sound e, start e .pre)
 
-first-of-parts-requires : tie.Need-first-of-parts-requires
-first-of-parts-requires c κs = search needs
-
 returns-3 : tie.Need-returns-3
 returns-3 c =
     let l = c .before .before in
     let e = l .before .before .before in
-    loads-refused _ (e .before .before .header-of .ensures) (e .before .header-refusal .ensures) (e .if2 .left) (l .before .before .enter-starts .ensures)
+    loads-refused _ (e .before .before .header-of .ensures) (e .before .header-refusal .ensures) (e .if2 .left)
+    (l .before .before .enter-starts .ensures)
     (l .enter-lines .ensures) (c .before .first-of-parts .ensures) (c .if3 .taken)
 
 returns-4 : tie.Need-returns-4
 returns-4 c =
     let l = c .before .before in
     let e = l .before .before .before in
-    loads-plan _ (e .before .before .header-of .ensures) (e .before .header-refusal .ensures) (e .if2 .left) (l .before .before .enter-starts .ensures)
+    loads-plan _ (e .before .before .header-of .ensures) (e .before .header-refusal .ensures) (e .if2 .left)
+    (l .before .before .enter-starts .ensures)
     (l .enter-lines .ensures) (c .before .first-of-parts .ensures) (c .if3 .left)
 
 pub load-spec : {M : Type 1} → statement M
@@ -56,11 +49,11 @@ load-spec =
     tie.close
     (tie.spec
     returns
-    header-of-requires
-    header-refusal-requires
+    (λ c κs. search needs)
+    (λ c κs. search needs)
     returns-2
     enter-starts-requires
     enter-lines-requires
-    first-of-parts-requires
+    (λ c κs. search needs)
     returns-3
     returns-4)

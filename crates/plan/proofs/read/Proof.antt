@@ -9,12 +9,6 @@ use Rattle.plan.proofs.read.Tie as tie
 load-requires : tie.Need-load-requires
 load-requires c κs = blank
 
-enum-known-loaded : tie.Need-enum-known-loaded
-enum-known-loaded c = search needs
-
-enum-known-loaded-2 : tie.Need-enum-known-loaded-2
-enum-known-loaded-2 c = search needs
-
 returns : tie.Need-returns
 returns c = loaded-refused _ (rw (c .before .loaded .given .1) at (c .before .before .before .load .ensures))
 
@@ -22,4 +16,4 @@ returns-2 : tie.Need-returns-2
 returns-2 c = let (w, _, e, _) = rw (c .before .loaded2 .given .1) at (c .before .before .before .load .ensures) in loaded-counts _ w e
 
 pub read-spec : {M : Type 1} → statement M
-read-spec = tie.close (tie.spec load-requires enum-known-loaded enum-known-loaded-2 returns returns-2)
+read-spec = tie.close (tie.spec load-requires (λ c. search needs) (λ c. search needs) returns returns-2)

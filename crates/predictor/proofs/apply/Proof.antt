@@ -16,17 +16,8 @@ ready : (c : tie.Else1) → let a = c .before .before .before .args in
     (tidy (a .k) (a .rec .now) ≡ true) × (decode (a .rec .now) .fed < limit) × (a .letter < 256)
 ready c = c .before .before .before .pre .1 (sym (c .before .is-refusal .ensures) ∙ c .if1 .left)
 
-is-refusal-requires : tie.Need-is-refusal-requires
-is-refusal-requires c κs = search needs
-
 returns : tie.Need-returns
 returns c = fed-kept _ _ _ _ (sym (c .before .is-refusal .ensures) ∙ c .if1 .taken)
-
-slice-read-last-after : tie.Need-slice-read-last-after
-slice-read-last-after c = search needs
-
-last-after-requires : tie.Need-last-after-requires
-last-after-requires c κs = search needs
 
 cast-keep : tie.Need-cast-keep
 cast-keep c = omega (arith, ready (c .before .before .before) .2)
@@ -37,21 +28,20 @@ keep-requires c κs =
     let (tidied, room, _) = ready e in
     (e .before .before .before .pre .0, tidied, room)
 
-same-length : tie.Need-same-length
-same-length c = search needs
-
 returns-2 : tie.Need-returns-2
-returns-2 c = let e = c .before .before .before .before .before .before in c .before .before .keep .ensures ∙ rw (c .before .before .before .before .last-after .ensures) (fed-taken _ _ _ _ (sym (e .before .is-refusal .ensures) ∙ e .if1 .left))
+returns-2 c = let e = c .before .before .before .before .before .before in
+    c .before .before .keep .ensures
+    ∙ rw (c .before .before .before .before .last-after .ensures) (fed-taken _ _ _ _ (sym (e .before .is-refusal .ensures) ∙ e .if1 .left))
 
 pub apply-spec : {M : Type 1} → statement M
 apply-spec =
     tie.close
     (tie.spec
-    is-refusal-requires
+    (λ c κs. search needs)
     returns
-    slice-read-last-after
-    last-after-requires
+    (λ c. search needs)
+    (λ c κs. search needs)
     cast-keep
     keep-requires
-    same-length
+    (λ c. search needs)
     returns-2)

@@ -6,9 +6,6 @@ use borrow.Author.Needs.{needs}
 use Rattle.predictor.proofs.base_of.Statement.{statement}
 use Rattle.predictor.proofs.base_of.Tie as tie
 
-singleton-requires : tie.Need-singleton-requires
-singleton-requires c κs = search needs
-
 returns : tie.Need-returns
 unfolding baseSet
 returns c = rw (lt-ltb _ _ (c .if1 .taken))
@@ -18,4 +15,4 @@ unfolding baseSet
 returns-2 c = rw (le-ltb _ _ (c .before .if1 .left)) (c .singleton .ensures)
 
 pub base-of-spec : {M : Type 1} → statement M
-base-of-spec = tie.close (tie.spec singleton-requires returns returns-2)
+base-of-spec = tie.close (tie.spec (λ c κs. search needs) returns returns-2)

@@ -6,25 +6,15 @@ use borrow.Author.Needs.{needs}
 use Rattle.predictor.proofs.begin.Statement.{statement}
 use Rattle.predictor.proofs.begin.Tie as tie
 
-is-refusal-requires : tie.Need-is-refusal-requires
-is-refusal-requires c κs = search needs
-
 returns : tie.Need-returns
 returns c = opened-kept _ _ _ (sym (c .before .is-refusal .ensures) ∙ c .if1 .taken)
-
-last-after-requires : tie.Need-last-after-requires
-last-after-requires c κs = search needs
-
-start-requires : tie.Need-start-requires
-start-requires c κs = search needs
-
-same-length : tie.Need-same-length
-same-length c = search needs
 
 returns-2 : tie.Need-returns-2
 returns-2 c =
     c .before .before .start .ensures
-    ∙ rw (c .before .before .before .before .last-after .ensures) (opened-taken _ _ _ (sym (c .before .before .before .before .before .before .is-refusal .ensures) ∙ c .before .before .before .before .before .if1 .left))
+    ∙ rw (c .before .before .before .before .last-after .ensures)
+    (opened-taken _ _ _ (sym (c .before .before .before .before .before .before .is-refusal .ensures)
+    ∙ c .before .before .before .before .before .if1 .left))
 
 pub begin-spec : {M : Type 1} → statement M
-begin-spec = tie.close (tie.spec is-refusal-requires returns last-after-requires start-requires same-length returns-2)
+begin-spec = tie.close (tie.spec (λ c κs. search needs) returns (λ c κs. search needs) (λ c κs. search needs) (λ c. search needs) returns-2)

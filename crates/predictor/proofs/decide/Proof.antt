@@ -1,6 +1,6 @@
 -- `decide` meets its contract: each return has what its tests showed.
 -- Assumes nothing.
-use Prim.Native.Nat.{ℕ, _+_, _-_, _≤_, _<_}
+use Prim.Native.Nat.{_+_, _-_, _≤_, _<_}
 use mathlib.Core.Path.{_≡_}
 use native.Mathlib.Omega.{arith}
 use lib.ListN.{take, drop}
@@ -65,17 +65,12 @@ part : (c : tie.After-held-of) → let b = start (from-2 (from-3 (from-4 (from-h
     take (8 + c .held-of .result - 8) (drop 8 b) ≡ decode b .held
 part c = part-first 8 _ _ (start (from-2 (from-3 (from-4 (from-held c .before)))) .args .rec .now) (c .held-of .ensures)
 
-stand-requires : tie.Need-stand-requires
-stand-requires c κs = search needs
-
 returns : tie.Need-returns
 returns c =
     let s = c .before .before .before .before in
     let a = s .args in
-    judged-10 (meaning s) (a .k) (a .rec .now) (a .letter) (standing-none (by s) (a .k) (a .rec .now) (s .pre .2) (c .before .stand .ensures) (c .if1 .taken))
-
-fed-of-requires : tie.Need-fed-of-requires
-fed-of-requires c κs = search needs
+    judged-10 (meaning s) (a .k) (a .rec .now) (a .letter)
+    (standing-none (by s) (a .k) (a .rec .now) (s .pre .2) (c .before .stand .ensures) (c .if1 .taken))
 
 returns-2 : tie.Need-returns-2
 unfolding limit
@@ -108,25 +103,11 @@ returns-5 c =
     let f = g .before in
     let e = from-3 f in
     let d = from-2 e in
-    judged-nothing (stands d) (by (start d)) _ (room e) (below f) (next g) (c .before .if4 .left) (omega (arith, c .if5 .taken, e .before .fed-of .ensures))
-
-shared-slice-read-base-of : tie.Need-shared-slice-read-base-of
-shared-slice-read-base-of c = search needs
-
-base-of-requires : tie.Need-base-of-requires
-base-of-requires c κs = search needs
-
-held-of-requires : tie.Need-held-of-requires
-held-of-requires c κs = search needs
+    judged-nothing (stands d) (by (start d)) _ (room e) (below f) (next g) (c .before .if4 .left)
+    (omega (arith, c .if5 .taken, e .before .fed-of .ensures))
 
 add-end : tie.Need-add-end
 add-end c = omega (arith, few c, start (from-2 (from-3 (from-4 (from-held c .before)))) .pre .2)
-
-sub-due : tie.Need-sub-due
-sub-due c = search needs
-
-part-due-start : tie.Need-part-due-start
-part-due-start c = search needs
 
 part-due-end : tie.Need-part-due-end
 part-due-end c = omega (arith, few c, start (from-2 (from-3 (from-4 (from-held c .before)))) .pre .2)
@@ -142,19 +123,24 @@ due-requires c κs =
     let o = stands d in
     let q = part (c .before) in
     let fed = e .before .fed-of .ensures in
-    let base = c .before .before .base-of in (
+    let base = c .before .before .base-of in
+    let is = from-is (by s) _ (decode (s .args .rec .now)) (o .keeps .last-lt) (base .ensures) fed in
+    let lt = from-lt (by s) _ (decode (s .args .rec .now)) (o .keeps .last-lt) (base .ensures) fed in (
       s .pre .0,
-      from-lt (by s) _ (decode (s .args .rec .now)) (o .keeps .last-lt) (base .ensures) fed,
-      rw q (o .letters),
-      below f,
+      lt,
       rw (q, o .long, o .keeps .held-is) (omega (arith, h .if5 .left, fed)),
-      h .before .if4 .left,
-      λ starts. reached-from _ _ (s .args .starts) starts (s .args .sets .now) _ _ o (from-is (by s) _ (decode (s .args .rec .now)) (o .keeps .last-lt) (base .ensures) fed) q (next g),
+      (
+        rw q (o .letters),
+        below f,
+        h .before .if4 .left,
+        λ starts. reached-from _ _ (s .args .starts) starts (s .args .sets .now) _ _ o is q (next g),
+      ),
     )
 
 resolution-requires : tie.Need-resolution-requires
 unfolding limit
-resolution-requires c κs = let e = from-3 (from-4 (from-held (c .before .before) .before)) in omega (arith, room e, e .before .fed-of .ensures)
+resolution-requires c κs = let e = from-3 (from-4 (from-held (c .before .before) .before)) in
+    omega (arith, room e, e .before .fed-of .ensures)
 
 returns-6 : tie.Need-returns-6
 returns-6 c =
@@ -166,27 +152,28 @@ returns-6 c =
     let fed = e .before .fed-of .ensures in
     let s = start d in
     judged-resolved (stands d) (by s) _ (room e) (below f) (next g) (h .before .if4 .left) (omega (arith, h .if5 .left, fed))
-    _ (from-is (by s) _ (decode (s .args .rec .now)) (stands d .keeps .last-lt) (c .before .before .before .before .base-of .ensures) fed) (part (c .before .before .before)) (c .before .due .ensures (s .args .starts)) fed _ (c .resolution .ensures)
+    _ (from-is (by s) _ (decode (s .args .rec .now)) (stands d .keeps .last-lt) (c .before .before .before .before .base-of .ensures) fed)
+    (part (c .before .before .before)) (c .before .due .ensures (s .args .starts)) fed _ (c .resolution .ensures)
 
 pub decide-spec : {M : Type 1} → statement M
 decide-spec =
     tie.close
     (tie.spec
-    stand-requires
+    (λ c κs. search needs)
     returns
-    fed-of-requires
+    (λ c κs. search needs)
     returns-2
     returns-3
     gather-requires
     returns-4
     add-taken
     returns-5
-    shared-slice-read-base-of
-    base-of-requires
-    held-of-requires
+    (λ c. search needs)
+    (λ c κs. search needs)
+    (λ c κs. search needs)
     add-end
-    sub-due
-    part-due-start
+    (λ c. search needs)
+    (λ c. search needs)
     part-due-end
     due-requires
     resolution-requires

@@ -36,19 +36,13 @@ returns c starts =
     let s = c .before .before .before in
     let a = s .args in
     let z : suc (length (a .held .now)) - a .k ≡ suc (length (a .held .now)) = omega (arith, c .if1 .taken) in
-    rw z (due-last (successors (a .n) (a .m) starts (a .sets .now)) (has (a .base)) (a .held .now) (a .letter) (s .pre .6 starts))
-
-add-i : tie.Need-add-i
-add-i c = search needs
-
-sub-i : tie.Need-sub-i
-sub-i c = search needs
+    rw z (due-last (successors (a .n) (a .m) starts (a .sets .now)) (has (a .base)) (a .held .now) (a .letter) (s .pre .3 .3 starts))
 
 slice-aggregate-reach-by : tie.Need-slice-aggregate-reach-by
 slice-aggregate-reach-by c = sym (length-take-le _ _ (inside (c .before)))
 
 reach-by-requires : tie.Need-reach-by-requires
-reach-by-requires c κs = let e = c .before in let p = start e .pre in (p .0, p .1, letters-take (position e) (p .2))
+reach-by-requires c κs = let e = c .before in let p = start e .pre in (p .0, p .1, letters-take (position e) (p .3 .0))
 
 returns-2 : tie.Need-returns-2
 returns-2 c starts =
@@ -57,25 +51,23 @@ returns-2 c starts =
     let a = s .args in
     let here = c .before .reach-by .ensures 0 in
     let fits : c .before .reach-by .result < 2 ^ a .n = rw here (setOf-lt (a .n) _) in
-    let sole = due-sole (bare (a .n) (a .m) (a .sets .now)) (has (a .base)) (a .held .now) (a .letter) (bare-within (s .pre .0)) (λ x f. has-lt (a .n) (a .base) x (s .pre .1) f)
-    (position e) (inside e) here (sym (ones-size (a .n) _ fits) ∙ c .if2 .taken) (s .pre .6 0) (s .pre .5) in
+    let sole = due-sole (bare (a .n) (a .m) (a .sets .now)) (has (a .base)) (a .held .now) (a .letter) (bare-within (s .pre .0))
+    (λ x f. has-lt (a .n) (a .base) x (s .pre .1) f)
+    (position e) (inside e) here (sym (ones-size (a .n) _ fits) ∙ c .if2 .taken) (s .pre .3 .3 0) (s .pre .3 .2) in
     let z : suc (length (a .held .now)) - a .k ≡ position e = omega arith in
-    rw z (sole ∙ setOf-cong (a .n) _ _ (λ x _. sym (possible-bare (a .n) (a .m) starts (a .sets .now) (has (a .base)) (a .held .now ++ (a .letter ∷ [])) (position e) x)))
-
-sub-survivors-with : tie.Need-sub-survivors-with
-sub-survivors-with c = search needs
-
-part-survivors-with-start : tie.Need-part-survivors-with-start
-part-survivors-with-start c = search needs
-
-part-survivors-with-end : tie.Need-part-survivors-with-end
-part-survivors-with-end c = search needs
+    rw z (sole ∙ setOf-cong (a .n) _ _
+    (λ x _. sym (possible-bare (a .n) (a .m) starts (a .sets .now) (has (a .base)) (a .held .now ++ (a .letter ∷ [])) (position e) x)))
 
 survivors-with-requires : tie.Need-survivors-with-requires
 survivors-with-requires c κs =
     let e = c .before .before .before .before in
-    let s = start e in
-    (s .pre .0, rw (c .before .before .reach-by .ensures 0) (setOf-lt (s .args .n) _), rw (behind e) (letters-drop (position e) (s .pre .2)), s .pre .3)
+    let s = start e in (
+      s .pre .0,
+      rw (c .before .before .reach-by .ensures 0) (setOf-lt (s .args .n) _),
+      rw (behind e)
+          (letters-drop (position e) (s .pre .3 .0)),
+      s .pre .3 .1,
+    )
 
 returns-3 : tie.Need-returns-3
 returns-3 c starts =
@@ -83,7 +75,8 @@ returns-3 c starts =
     let a = start e .args in
     let z : suc (length (a .held .now)) - a .k ≡ position e = omega arith in
     rw z
-    (due-set (successors (a .n) (a .m) starts (a .sets .now)) (has (a .base)) (a .held .now) (a .letter) (position e) (inside e) (c .before .before .before .reach-by .ensures starts)
+    (due-set (successors (a .n) (a .m) starts (a .sets .now)) (has (a .base)) (a .held .now) (a .letter) (position e) (inside e)
+    (c .before .before .before .reach-by .ensures starts)
     (rw (behind e) at (c .survivors-with .ensures starts)))
 
 pub due-spec : {M : Type 1} → statement M
@@ -91,13 +84,13 @@ due-spec =
     tie.close
     (tie.spec
     returns
-    add-i
-    sub-i
+    (λ c. search needs)
+    (λ c. search needs)
     slice-aggregate-reach-by
     reach-by-requires
     returns-2
-    sub-survivors-with
-    part-survivors-with-start
-    part-survivors-with-end
+    (λ c. search needs)
+    (λ c. search needs)
+    (λ c. search needs)
     survivors-with-requires
     returns-3)

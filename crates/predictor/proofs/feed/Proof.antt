@@ -19,9 +19,6 @@ head c = headed _ (c .before .before .head-of .ensures) (c .if1 .left)
 
 -- THE NEEDS
 
-head-of-requires : tie.Need-head-of-requires
-head-of-requires c κs = search needs
-
 returns : tie.Need-returns
 returns c = feed-8 _ _ _ (sym (head-unfit _ (c .before .before .head-of .ensures)) ∙ c .if1 .taken)
 
@@ -37,20 +34,17 @@ sub-sets c = omega (arith, head (c .before) .fits .room)
 part-sets-start : tie.Need-part-sets-start
 part-sets-start c = omega (arith, head (c .before) .fits .room)
 
-part-sets-end : tie.Need-part-sets-end
-part-sets-end c = search needs
-
 decide-requires : tie.Need-decide-requires
 decide-requires c κs = let e = c .before .before in let h = head (e .before) in (h .fit, h .initial, e .if2 .left, h .lookahead)
 
 apply-requires : tie.Need-apply-requires
 apply-requires c κs =
     let e = c .before .before .before .before in
-    let a = start (e .before) .args in
-    (e .if2 .left, subst (Ready _ (a .rec .now) (a .letter)) (sym (c .before .decide .ensures)) (judged-ready _ _ _ _ (head (e .before) .fit .letters)))
-
-same-length : tie.Need-same-length
-same-length c = search needs
+    let a = start (e .before) .args in (
+      e .if2 .left,
+      subst (Ready _ (a .rec .now) (a .letter)) (sym (c .before .decide .ensures))
+          (judged-ready _ _ _ _ (head (e .before) .fit .letters)),
+    )
 
 returns-3 : tie.Need-returns-3
 returns-3 c =
@@ -62,14 +56,14 @@ pub feed-spec : {M : Type 1} → statement M
 feed-spec =
     tie.close
     (tie.spec
-    head-of-requires
+    (λ c κs. search needs)
     returns
     add-if2
     returns-2
     sub-sets
     part-sets-start
-    part-sets-end
+    (λ c. search needs)
     decide-requires
     apply-requires
-    same-length
+    (λ c. search needs)
     returns-3)

@@ -28,9 +28,6 @@ tested c = c .before .before
 
 -- THE NEEDS
 
-head-of-requires : tie.Need-head-of-requires
-head-of-requires c κs = search needs
-
 returns : tie.Need-returns
 returns c = end-8 _ _ _ (sym (head-unfit _ (c .before .before .head-of .ensures)) ∙ c .if1 .taken)
 
@@ -46,9 +43,6 @@ sub-sets c = omega (arith, head (c .before) .fits .room)
 part-sets-start : tie.Need-part-sets-start
 part-sets-start c = omega (arith, head (c .before) .fits .room)
 
-part-sets-end : tie.Need-part-sets-end
-part-sets-end c = search needs
-
 stand-requires : tie.Need-stand-requires
 stand-requires c κs = let e = c .before in let h = head (e .before) in (h .fit, h .initial, room e .0)
 
@@ -60,10 +54,7 @@ list-open-requires c κs =
     let s = c .before .before in
     let e = tested s in
     let h = head (e .before) in
-    (h .fit, h .initial, room e .0, h .lookahead, room e .1, rw (← s .stand .ensures) (c .before .if3 .left))
-
-same-length : tie.Need-same-length
-same-length c = search needs
+    (h .fit, h .initial, (h .lookahead, room e .1, room e .0, rw (← s .stand .ensures) (c .before .if3 .left)))
 
 returns-4 : tie.Need-returns-4
 returns-4 c =
@@ -75,15 +66,15 @@ pub finish-spec : {M : Type 1} → statement M
 finish-spec =
     tie.close
     (tie.spec
-    head-of-requires
+    (λ c κs. search needs)
     returns
     add-if2
     returns-2
     sub-sets
     part-sets-start
-    part-sets-end
+    (λ c. search needs)
     stand-requires
     returns-3
     list-open-requires
-    same-length
+    (λ c. search needs)
     returns-4)

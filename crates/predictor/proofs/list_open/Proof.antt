@@ -27,12 +27,13 @@ by : (c : tie.Start) → By (meaning c) (c .args .starts)
 by c = by-sets (c .pre .0) (c .pre .1)
 
 stands : (c : tie.Start) → let a = c .args in Standing (meaning c) (a .k) (a .rec .now) (standing (meaning c) (a .k) (a .rec .now))
-stands c = let a = c .args in standing-some (by c) (a .k) (a .rec .now) (c .pre .2) refl (c .pre .5)
+stands c = let a = c .args in standing-some (by c) (a .k) (a .rec .now) (c .pre .2 .2) refl (c .pre .2 .3)
 
 few : (c : tie.After-held-of) → (c .held-of .result ≤ start c .args .k) × (start c .args .k ≤ 2016)
-few c = (omega (arith, stands (start c) .keeps .held-is, c .held-of .ensures), start c .pre .3)
+few c = (omega (arith, stands (start c) .keeps .held-is, c .held-of .ensures), start c .pre .2 .0)
 
-part : (c : tie.After-held-of) → take (8 + c .held-of .result - 8) (drop 8 (start c .args .rec .now)) ≡ decode (start c .args .rec .now) .held
+part : (c : tie.After-held-of)
+    → take (8 + c .held-of .result - 8) (drop 8 (start c .args .rec .now)) ≡ decode (start c .args .rec .now) .held
 part c = part-first 8 _ _ (start c .args .rec .now) (c .held-of .ensures)
 
 long : (c : tie.After-trace) → length (c .trace .last .1 .1 .1 .1 .1 .0) ≡ 2017
@@ -45,38 +46,20 @@ abbrev held-before : tie.After-base-of → tie.After-held-of
 held-before c = c .before .before .before
 
 -- the base
-is : (c : tie.After-base-of) → let s = start (held-before c) in has (c .base-of .result) ≡ base (meaning s) (s .args .k) (decode (s .args .rec .now))
-is c = let s = start (held-before c) in from-is (by s) _ (decode (s .args .rec .now)) (stands s .keeps .last-lt) (c .base-of .ensures) (c .before .before .fed-of .ensures)
+is : (c : tie.After-base-of) → let s = start (held-before c) in
+    has (c .base-of .result) ≡ base (meaning s) (s .args .k) (decode (s .args .rec .now))
+is c = let s = start (held-before c) in
+    from-is (by s) _ (decode (s .args .rec .now)) (stands s .keeps .last-lt) (c .base-of .ensures) (c .before .before .fed-of .ensures)
 
 below : (c : tie.After-base-of) → c .base-of .result < 2 ^ start (held-before c) .args .n
-below c = let s = start (held-before c) in from-lt (by s) _ (decode (s .args .rec .now)) (stands s .keeps .last-lt) (c .base-of .ensures) (c .before .before .fed-of .ensures)
-
-held-of-requires : tie.Need-held-of-requires
-held-of-requires c κs = search needs
-
-fed-of-requires : tie.Need-fed-of-requires
-fed-of-requires c κs = search needs
-
-shared-slice-read-base-of : tie.Need-shared-slice-read-base-of
-shared-slice-read-base-of c = search needs
-
-base-of-requires : tie.Need-base-of-requires
-base-of-requires c κs = search needs
+below c = let s = start (held-before c) in
+    from-lt (by s) _ (decode (s .args .rec .now)) (stands s .keeps .last-lt) (c .base-of .ensures) (c .before .before .fed-of .ensures)
 
 add-end : tie.Need-add-end
-add-end c = let h = c .before .before .before in omega (arith, few h .0, start h .pre .2)
-
-sub-trace : tie.Need-sub-trace
-sub-trace c = search needs
-
-part-trace-start : tie.Need-part-trace-start
-part-trace-start c = search needs
+add-end c = let h = c .before .before .before in omega (arith, few h .0, start h .pre .2 .2)
 
 part-trace-end : tie.Need-part-trace-end
-part-trace-end c = let h = c .before .before .before in omega (arith, few h .0, start h .pre .2)
-
-slice-aggregate-trace : tie.Need-slice-aggregate-trace
-slice-aggregate-trace c = search needs
+part-trace-end c = let h = c .before .before .before in omega (arith, few h .0, start h .pre .2 .2)
 
 trace-requires : tie.Need-trace-requires
 trace-requires c κs =
@@ -89,20 +72,14 @@ trace-requires c κs =
       below b,
       base-some (s .args .starts) (s .pre .0) (below b) o (is b) q,
       rw q (o .letters),
-      rw (q, o .long, o .keeps .held-is) (omega (arith, s .pre .3)),
+      rw (q, o .long, o .keeps .held-is) (omega (arith, s .pre .2 .0)),
     )
 
 add-lesser : tie.Need-add-lesser
 add-lesser c = omega (arith, few (c .before .before .before .before .before .before .before))
 
-lesser-requires : tie.Need-lesser-requires
-lesser-requires c κs = search needs
-
 add-from : tie.Need-add-from
 add-from c = omega (arith, few (c .before .before .before .before .before .before .before .before))
-
-sub-from : tie.Need-sub-from
-sub-from c = search needs
 
 mul-copy : tie.Need-mul-copy
 mul-copy c = omega (arith, few (c .before .before .before .before .before .before .before .before .before))
@@ -113,16 +90,13 @@ sub-copy c = omega (arith, few (c .before .before .before .before .before .befor
 part-copy-start : tie.Need-part-copy-start
 part-copy-start c = omega (arith, few (c .before .before .before .before .before .before .before .before .before .before))
 
-part-copy-end : tie.Need-part-copy-end
-part-copy-end c = search needs
-
 copy-requires : tie.Need-copy-requires
 copy-requires c κs = let t = c .before .before .before .before .before in
-    let h = held-before (based t) in
-    (simp (length-take, length-drop) (omega (arith, long t, few h, c .before .before .before .lesser .ensures)), omega (arith, c .before .before .before .lesser .ensures, start h .pre .4))
-
-same-length : tie.Need-same-length
-same-length c = search needs
+    let h = held-before (based t) in (
+      simp (length-take, length-drop) (omega (arith, long t, few h, c .before .before .before .lesser .ensures)),
+      omega
+          (arith, c .before .before .before .lesser .ensures, start h .pre .2 .1),
+    )
 
 returns : tie.Need-returns
 returns c =
@@ -135,10 +109,13 @@ returns c =
     let all = t .trace .last .1 .1 .1 .1 .1 .0 in
     let h = g .held-of .result in
     let count = c .before .before .before .before .before .before .lesser in
-    let w = rw (held-whole (a .starts) (s .pre .0) (below b) o (is b) (part g) (t .trace .ensures .0)) at (t .trace .ensures .1 (a .starts)) in
+    let w = rw (held-whole (a .starts) (s .pre .0) (below b) o (is b) (part g) (t .trace .ensures .0)) at
+    (t .trace .ensures .1 (a .starts)) in
     let room : suc h ≤ length all = omega (arith, long t, few g) in
-    let sets = open-sets (meaning s) (a .k) (a .rec .now) o _ (is b) (part g) w h (count .result) (g .held-of .ensures) room (count .ensures) in
-    let number = open-count (meaning s) (a .k) (a .rec .now) o _ (is b) (part g) w h (count .result) (g .held-of .ensures) room (count .ensures) in
+    let sets = open-sets (meaning s) (a .k) (a .rec .now) o _ (is b) (part g) w h (count .result) (g .held-of .ensures) room
+    (count .ensures) in
+    let number = open-count (meaning s) (a .k) (a .rec .now) o _ (is b) (part g) w h (count .result) (g .held-of .ensures) room
+    (count .ensures) in
     let whole = part-whole (h + 1 - count .result) (2017 - (h + 1 - count .result)) all (omega (arith, long t)) in
     (sym number, rw (number, sets) (rw whole at (c .before .before .copy .ensures)))
 
@@ -146,24 +123,24 @@ pub list-open-spec : {M : Type 1} → statement M
 list-open-spec =
     tie.close
     (tie.spec
-    held-of-requires
-    fed-of-requires
-    shared-slice-read-base-of
-    base-of-requires
+    (λ c κs. search needs)
+    (λ c κs. search needs)
+    (λ c. search needs)
+    (λ c κs. search needs)
     add-end
-    sub-trace
-    part-trace-start
+    (λ c. search needs)
+    (λ c. search needs)
     part-trace-end
-    slice-aggregate-trace
+    (λ c. search needs)
     trace-requires
     add-lesser
-    lesser-requires
+    (λ c κs. search needs)
     add-from
-    sub-from
+    (λ c. search needs)
     mul-copy
     sub-copy
     part-copy-start
-    part-copy-end
+    (λ c. search needs)
     copy-requires
-    same-length
+    (λ c. search needs)
     returns)

@@ -17,9 +17,6 @@ head c = headed _ (c .before .before .head-of .ensures) (c .if1 .left)
 
 -- THE NEEDS
 
-head-of-requires : tie.Need-head-of-requires
-head-of-requires c κs = search needs
-
 returns : tie.Need-returns
 returns c = open-8 _ _ (sym (head-unfit _ (c .before .before .head-of .ensures)) ∙ c .if1 .taken)
 
@@ -29,30 +26,22 @@ add-if2 c = omega (arith, head c .lookahead)
 returns-2 : tie.Need-returns-2
 returns-2 c = open-9 _ _ (head (c .before)) (c .if2 .taken)
 
-decide-open-requires : tie.Need-decide-open-requires
-decide-open-requires c κs = search needs
-
-begin-requires : tie.Need-begin-requires
-begin-requires c κs = search needs
-
-same-length : tie.Need-same-length
-same-length c = search needs
-
 returns-3 : tie.Need-returns-3
 returns-3 c =
     let decided = c .before .before .before .before in
     let e = decided .before in
-    open-on _ _ (head (e .before)) (e .if2 .left) (decided .decide-open .result) (decided .decide-open .ensures) (c .before .before .begin .ensures)
+    open-on _ _ (head (e .before)) (e .if2 .left) (decided .decide-open .result) (decided .decide-open .ensures)
+    (c .before .before .begin .ensures)
 
 pub open-spec : {M : Type 1} → statement M
 open-spec =
     tie.close
     (tie.spec
-    head-of-requires
+    (λ c κs. search needs)
     returns
     add-if2
     returns-2
-    decide-open-requires
-    begin-requires
-    same-length
+    (λ c κs. search needs)
+    (λ c κs. search needs)
+    (λ c. search needs)
     returns-3)

@@ -28,51 +28,28 @@ count c = omega (arith, tidy-out _ _ (tidied c) .count, c .before .before .befor
 -- the test of the numbers, as the bytes hold them
 numbers : (c : tie.After-is-regular) → let a = start (c .before .before) .args in let r = decode (a .rec .now) in
     c .is-regular .result ≡ regular (a .n) (a .k) (r .fed) (r .last) (heldCount (a .rec .now))
-numbers c = let e = c .before .before in rw (← e .before .before .before .before .fed-of .ensures, ← e .before .before .before .held-of .ensures, ← c .before .wide .ensures .0) (c .is-regular .ensures)
+numbers c =
+    let h = c .before .before .before .before .before in
+    rw (← h .before .fed-of .ensures, ← h .held-of .ensures, ← c .before .wide .ensures .0) (c .is-regular .ensures)
 
 regulars : (c : tie.Else2) → let a = start (from-2 c) .args in let r = decode (a .rec .now) in
     regular (a .n) (a .k) (r .fed) (r .last) (heldCount (a .rec .now)) ≡ true
 regulars c = sym (numbers (c .before)) ∙ not-false (c .before .is-regular .result) (c .if2 .left)
 
-fed-of-requires : tie.Need-fed-of-requires
-fed-of-requires c κs = search needs
-
-held-of-requires : tie.Need-held-of-requires
-held-of-requires c κs = search needs
-
-shared-slice-read-last : tie.Need-shared-slice-read-last
-shared-slice-read-last c = search needs
-
-is-tidy-requires : tie.Need-is-tidy-requires
-is-tidy-requires c κs = search needs
-
 returns : tie.Need-returns
 returns c =
     let t = c .before in
-    standing-untidy _ _ _ (c .before .before .before .before .before .before .before .pre .2) (sym (t .is-tidy .ensures) ∙ not-true (t .is-tidy .result) (c .if1 .taken))
-
-wide-requires : tie.Need-wide-requires
-wide-requires c κs = search needs
-
-is-regular-requires : tie.Need-is-regular-requires
-is-regular-requires c κs = search needs
+    standing-untidy _ _ _ (c .before .before .before .before .before .before .before .pre .2)
+    (sym (t .is-tidy .ensures) ∙ not-true (t .is-tidy .result) (c .if1 .taken))
 
 returns-2 : tie.Need-returns-2
 returns-2 c =
     let e = c .before .before .before in
-    standing-against _ _ _ (start e .pre .2) (tidied e) (sym (numbers (c .before)) ∙ not-true (c .before .is-regular .result) (c .if2 .taken))
-
-base-of-requires : tie.Need-base-of-requires
-base-of-requires c κs = search needs
+    standing-against _ _ _ (start e .pre .2) (tidied e)
+    (sym (numbers (c .before)) ∙ not-true (c .before .is-regular .result) (c .if2 .taken))
 
 add-end : tie.Need-add-end
 add-end c = let e = from-2 (c .before) in omega (arith, count e, start e .pre .2)
-
-sub-walk : tie.Need-sub-walk
-sub-walk c = search needs
-
-part-walk-start : tie.Need-part-walk-start
-part-walk-start c = search needs
 
 part-walk-end : tie.Need-part-walk-end
 part-walk-end c = let e = from-2 (c .before) in omega (arith, count e, start e .pre .2)
@@ -82,8 +59,11 @@ walk-requires c κs =
     let d = c .before .before in
     let e = from-2 d in
     let s = start e in
-    let keeps = keeps-in _ _ _ _ _ (regulars d) in
-    (s .pre .0, from-lt (by-sets (s .pre .0) (s .pre .1)) _ (decode (s .args .rec .now)) (keeps .last-lt) (c .before .base-of .ensures) (e .before .before .before .before .fed-of .ensures))
+    let keeps = keeps-in _ _ _ _ _ (regulars d) in (
+      s .pre .0,
+      from-lt (by-sets (s .pre .0) (s .pre .1)) _ (decode (s .args .rec .now)) (keeps .last-lt) (c .before .base-of .ensures)
+          (e .before .before .before .before .fed-of .ensures),
+    )
 
 returns-3 : tie.Need-returns-3
 returns-3 c =
@@ -91,25 +71,26 @@ returns-3 c =
     let e = from-2 d in
     let s = start e in
     let held = e .before .before .before in
-    standing-walked _ (s .args .k) (s .args .rec .now) (s .pre .2) (by-sets (s .pre .0) (s .pre .1)) (tidied e) (regulars d) (c .before .before .base-of .ensures) (held .before .fed-of .ensures)
+    standing-walked _ (s .args .k) (s .args .rec .now) (s .pre .2) (by-sets (s .pre .0) (s .pre .1)) (tidied e) (regulars d)
+    (c .before .before .base-of .ensures) (held .before .fed-of .ensures)
     (part-first 8 _ _ (s .args .rec .now) (held .held-of .ensures)) (c .walk .ensures (s .args .starts))
 
 pub stand-spec : {M : Type 1} → statement M
 stand-spec =
     tie.close
     (tie.spec
-    fed-of-requires
-    held-of-requires
-    shared-slice-read-last
-    is-tidy-requires
+    (λ c κs. search needs)
+    (λ c κs. search needs)
+    (λ c. search needs)
+    (λ c κs. search needs)
     returns
-    wide-requires
-    is-regular-requires
+    (λ c κs. search needs)
+    (λ c κs. search needs)
     returns-2
-    base-of-requires
+    (λ c κs. search needs)
     add-end
-    sub-walk
-    part-walk-start
+    (λ c. search needs)
+    (λ c. search needs)
     part-walk-end
     walk-requires
     returns-3)

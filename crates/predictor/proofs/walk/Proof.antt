@@ -7,17 +7,13 @@ use borrow.Author.Needs.{needs}
 use Rattle.predictor.proofs.walk.Statement.{statement}
 use Rattle.predictor.proofs.walk.Tie as tie
 
-letter-off-requires : tie.Need-letter-off-requires
-letter-off-requires c κs = search needs
-
 returns : tie.Need-returns
-returns c = let s = c .before .before .before .before in stray-none (s .pre .0) (s .args .set) (s .args .word .now) (sym (c .before .letter-off .ensures) ∙ c .if1 .taken)
+returns c = let s = c .before .before .before .before in
+    stray-none (s .pre .0) (s .args .set) (s .args .word .now) (sym (c .before .letter-off .ensures) ∙ c .if1 .taken)
 
 reach-by-requires : tie.Need-reach-by-requires
-reach-by-requires c κs = let p = c .before .before .before .before .pre in (p .0, p .1, letters-below _ _ (sym (c .before .letter-off .ensures) ∙ c .if1 .left))
-
-returns-2 : tie.Need-returns-2
-returns-2 c = search needs
+reach-by-requires c κs = let p = c .before .before .before .before .pre in
+    (p .0, p .1, letters-below _ _ (sym (c .before .letter-off .ensures) ∙ c .if1 .left))
 
 pub walk-spec : {M : Type 1} → statement M
-walk-spec = tie.close (tie.spec letter-off-requires returns reach-by-requires returns-2)
+walk-spec = tie.close (tie.spec (λ c κs. search needs) returns reach-by-requires (λ c. search needs))

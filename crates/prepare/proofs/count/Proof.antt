@@ -22,20 +22,8 @@ plan c = now (start (c .before .before) .args .plan)
 load-requires : tie.Need-load-requires
 load-requires c κs = blank
 
-enum-known-loaded : tie.Need-enum-known-loaded
-enum-known-loaded c = search needs
-
-enum-known-loaded-2 : tie.Need-enum-known-loaded-2
-enum-known-loaded-2 c = search needs
-
 slice-aggregate-count-loaded : tie.Need-slice-aggregate-count-loaded
 slice-aggregate-count-loaded c = let l = c .before .before in sym ((rw (l .loaded2 .given .1) at (l .before .before .load .ensures)) .3)
-
-cast-count-loaded : tie.Need-cast-count-loaded
-cast-count-loaded c = search needs
-
-cast-count-loaded-2 : tie.Need-cast-count-loaded-2
-cast-count-loaded-2 c = search needs
 
 count-loaded-requires : tie.Need-count-loaded-requires
 count-loaded-requires c κs =
@@ -50,9 +38,6 @@ returns c =
     let p = now (start l .args .plan) in
     count-refused (asked p) (asked-proper p) (unread (asked p) (asked-proper p) e n _) n
 
-same-length : tie.Need-same-length
-same-length c = search needs
-
 returns-2 : tie.Need-returns-2
 returns-2 c =
     let d = c .before .before in
@@ -65,12 +50,12 @@ count-spec =
     tie.close
     (tie.spec
     load-requires
-    enum-known-loaded
-    enum-known-loaded-2
+    (λ c. search needs)
+    (λ c. search needs)
     slice-aggregate-count-loaded
-    cast-count-loaded
-    cast-count-loaded-2
+    (λ c. search needs)
+    (λ c. search needs)
     count-loaded-requires
     returns
-    same-length
+    (λ c. search needs)
     returns-2)

@@ -12,19 +12,8 @@ mul-if1 : tie.Need-mul-if1
 mul-if1 c = omega (arith, square (c .before .before .pre .sized .n-high))
 
 returns : tie.Need-returns
-returns c = let s = c .before .before .before in count-refused _ (held-proper (s .pre)) (count-short _ (held-proper (s .pre)) (held-passes (s .pre)) (c .if1 .taken)) (λ e. omega arith)
-
-look-ahead-requires : tie.Need-look-ahead-requires
-look-ahead-requires c κs = search needs
-
-enum-known-answer : tie.Need-enum-known-answer
-enum-known-answer c = search needs
-
-enum-known-answer-2 : tie.Need-enum-known-answer-2
-enum-known-answer-2 c = search needs
-
-same-length : tie.Need-same-length
-same-length c = search needs
+returns c = let s = c .before .before .before in
+    count-refused _ (held-proper (s .pre)) (count-short _ (held-proper (s .pre)) (held-passes (s .pre)) (c .if1 .taken)) (λ e. omega arith)
 
 returns-2 : tie.Need-returns-2
 returns-2 c =
@@ -33,15 +22,13 @@ returns-2 c =
     let (a, e) = rw (c .before .answer .given .1) at (l .look-ahead .ensures) in
     ((count-clear _ (held-proper p) (held-passes p) (l .before .before .if1 .left), a), e)
 
-same-length-2 : tie.Need-same-length-2
-same-length-2 c = search needs
-
 returns-3 : tie.Need-returns-3
 returns-3 c =
     let l = c .before .before .before .before .before in
     let p = l .before .before .before .before .before .pre in
     let (t, k) = rw (c .before .answer2 .given .1) at (l .look-ahead .ensures) in
-    count-never _ (held-proper p) (count-clear _ (held-proper p) (held-passes p) (l .before .before .if1 .left)) (record { claimed = t; kept = k })
+    count-never _ (held-proper p) (count-clear _ (held-proper p) (held-passes p) (l .before .before .if1 .left))
+    (record { claimed = t; kept = k })
 
 pub count-loaded-spec : {M : Type 1} → statement M
 count-loaded-spec =
@@ -49,10 +36,10 @@ count-loaded-spec =
     (tie.spec
     mul-if1
     returns
-    look-ahead-requires
-    enum-known-answer
-    enum-known-answer-2
-    same-length
+    (λ c κs. search needs)
+    (λ c. search needs)
+    (λ c. search needs)
+    (λ c. search needs)
     returns-2
-    same-length-2
+    (λ c. search needs)
     returns-3)

@@ -22,20 +22,8 @@ plan c = now (start (c .before .before) .args .plan)
 load-requires : tie.Need-load-requires
 load-requires c κs = blank
 
-enum-known-loaded : tie.Need-enum-known-loaded
-enum-known-loaded c = search needs
-
-enum-known-loaded-2 : tie.Need-enum-known-loaded-2
-enum-known-loaded-2 c = search needs
-
 slice-aggregate-prepare-loaded : tie.Need-slice-aggregate-prepare-loaded
 slice-aggregate-prepare-loaded c = let l = c .before .before in sym ((rw (l .loaded2 .given .1) at (l .before .before .load .ensures)) .3)
-
-cast-prepare-loaded : tie.Need-cast-prepare-loaded
-cast-prepare-loaded c = search needs
-
-cast-prepare-loaded-2 : tie.Need-cast-prepare-loaded-2
-cast-prepare-loaded-2 c = search needs
 
 prepare-loaded-requires : tie.Need-prepare-loaded-requires
 prepare-loaded-requires c κs =
@@ -50,12 +38,6 @@ returns c =
     let p = now (start l .args .plan) in
     prepare-refused (asked p) (asked-proper p) (unread (asked p) (asked-proper p) e n _) n
 
-same-length : tie.Need-same-length
-same-length c = search needs
-
-same-length-2 : tie.Need-same-length-2
-same-length-2 c = search needs
-
 returns-2 : tie.Need-returns-2
 returns-2 c =
     let d = c .before .before .before .before in
@@ -68,13 +50,13 @@ prepare-spec =
     tie.close
     (tie.spec
     load-requires
-    enum-known-loaded
-    enum-known-loaded-2
+    (λ c. search needs)
+    (λ c. search needs)
     slice-aggregate-prepare-loaded
-    cast-prepare-loaded
-    cast-prepare-loaded-2
+    (λ c. search needs)
+    (λ c. search needs)
     prepare-loaded-requires
     returns
-    same-length
-    same-length-2
+    (λ c. search needs)
+    (λ c. search needs)
     returns-2)

@@ -22,31 +22,15 @@ add-if1 : tie.Need-add-if1
 add-if1 c = omega (arith, few (c .before .before .before))
 
 returns : tie.Need-returns
-returns c = let s = c .before .before .before .before in prepare-refused _ (held-proper (s .pre)) (table-short _ (held-proper (s .pre)) (held-passes (s .pre)) _ (c .if1 .taken)) (λ e. omega arith)
-
-count-loaded-requires : tie.Need-count-loaded-requires
-count-loaded-requires c κs = search needs
-
-enum-known-counted : tie.Need-enum-known-counted
-enum-known-counted c = search needs
+returns c = let s = c .before .before .before .before in
+    prepare-refused _ (held-proper (s .pre)) (table-short _ (held-proper (s .pre)) (held-passes (s .pre)) _ (c .if1 .taken))
+    (λ e. omega arith)
 
 write-requires : tie.Need-write-requires
 write-requires c κs =
     let n = c .before .before .before .before .before .before in
     let held = n .before .before .before .before .before .before .pre in
     (held .fit, held .starts-fit, n .before .before .if1 .left)
-
-enum-known-counted-2 : tie.Need-enum-known-counted-2
-enum-known-counted-2 c = search needs
-
-enum-known-counted-3 : tie.Need-enum-known-counted-3
-enum-known-counted-3 c = search needs
-
-same-length : tie.Need-same-length
-same-length c = search needs
-
-same-length-2 : tie.Need-same-length-2
-same-length-2 c = search needs
 
 returns-2 : tie.Need-returns-2
 returns-2 c =
@@ -57,17 +41,11 @@ returns-2 c =
     let (p, e) = rw (l .counted .given .1) at (n .count-loaded .ensures) in
     (rw (le-ltb _ _ room) p, w .write .ensures, e)
 
-same-length-3 : tie.Need-same-length-3
-same-length-3 c = search needs
-
 returns-3 : tie.Need-returns-3
 returns-3 c =
     let n = c .before .before .before .before .before in
     let (p, e) = rw (c .before .counted2 .given .1) at (n .count-loaded .ensures) in
     (rw (le-ltb _ _ (n .before .before .if1 .left)) p, refl, e)
-
-same-length-4 : tie.Need-same-length-4
-same-length-4 c = search needs
 
 returns-4 : tie.Need-returns-4
 returns-4 c =
@@ -82,15 +60,15 @@ prepare-loaded-spec =
     mul-if1
     add-if1
     returns
-    count-loaded-requires
-    enum-known-counted
+    (λ c κs. search needs)
+    (λ c. search needs)
     write-requires
-    enum-known-counted-2
-    enum-known-counted-3
-    same-length
-    same-length-2
+    (λ c. search needs)
+    (λ c. search needs)
+    (λ c. search needs)
+    (λ c. search needs)
     returns-2
-    same-length-3
+    (λ c. search needs)
     returns-3
-    same-length-4
+    (λ c. search needs)
     returns-4)

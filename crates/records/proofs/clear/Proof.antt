@@ -20,17 +20,14 @@ loop-holds c = (omega arith, copied-none _ _)
 slice-write-held : tie.Need-slice-write-held Inv-loop μ-loop
 slice-write-held c = omega (arith, c .before .loop .inv .1 .long)
 
-add-i : tie.Need-add-i Inv-loop μ-loop
-add-i c = omega arith
-
-loop-less : tie.Need-loop-less Inv-loop μ-loop
-loop-less c = omega arith
-
 loop-again : tie.Need-loop-again Inv-loop μ-loop
 loop-again c =
     let i = c .before .loop in
-    let k : ℕ = c .before .before .args .k in
-    (omega arith, copied-next (i .inv .1) (rw length-replicate (omega arith)) (omega arith) (sym (getD-replicate k (i .i) 0 0 (omega arith))))
+    let k : ℕ = c .before .before .args .k in (
+      omega arith,
+      copied-next (i .inv .1) (rw length-replicate (omega arith)) (omega arith)
+          (sym (getD-replicate k (i .i) 0 0 (omega arith))),
+    )
 
 same-length : tie.Need-same-length Inv-loop μ-loop
 same-length c = c .before .loop .inv .1 .long
@@ -46,8 +43,8 @@ clear-spec =
     μ-loop
     loop-holds
     slice-write-held
-    add-i
-    loop-less
+    (λ c. omega arith)
+    (λ c. omega arith)
     loop-again
     same-length
     returns)

@@ -22,18 +22,6 @@ loop-holds : tie.Need-loop-holds Inv-loop μ-loop
 unfolding any
 loop-holds c = (omega arith, refl)
 
-add-zero : tie.Need-add-zero Inv-loop μ-loop
-add-zero c = omega arith
-
-shared-slice-read-zero : tie.Need-shared-slice-read-zero Inv-loop μ-loop
-shared-slice-read-zero c = omega arith
-
-add-i : tie.Need-add-i Inv-loop μ-loop
-add-i c = omega arith
-
-loop-less : tie.Need-loop-less Inv-loop μ-loop
-loop-less c = omega arith
-
 loop-again : tie.Need-loop-again Inv-loop μ-loop
 unfolding any
 loop-again c = let i = c .before .before .loop in (omega arith, rw (i .inv .1, add-one) (joined (any (i .i) _) _))
@@ -48,9 +36,9 @@ is-zero-spec =
     Inv-loop
     μ-loop
     loop-holds
-    add-zero
-    shared-slice-read-zero
-    add-i
-    loop-less
+    (λ c. omega arith)
+    (λ c. omega arith)
+    (λ c. omega arith)
+    (λ c. omega arith)
     loop-again
     returns)

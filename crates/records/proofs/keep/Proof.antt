@@ -16,21 +16,6 @@ use Rattle.records.proofs.keep.Tie as tie
 tidied : (c : tie.Start) → Tidy (c .args .k) (c .args .rec .now)
 tidied c = tidy-out _ _ (c .pre .1)
 
-fed-of-requires : tie.Need-fed-of-requires
-fed-of-requires c κs = search needs
-
-held-of-requires : tie.Need-held-of-requires
-held-of-requires c κs = search needs
-
-sub-push : tie.Need-sub-push
-sub-push c = search needs
-
-part-push-start : tie.Need-part-push-start
-part-push-start c = search needs
-
-part-push-end : tie.Need-part-push-end
-part-push-end c = search needs
-
 push-requires : tie.Need-push-requires
 push-requires c κs =
     let s = c .before .before .before .before .before .before in
@@ -38,22 +23,14 @@ push-requires c κs =
 
 add-write-numbers : tie.Need-add-write-numbers
 unfolding limit
-add-write-numbers c = let f = c .before .before .before .before .before .before .before in omega (arith, f .fed-of .ensures, f .before .before .before .pre .2)
+add-write-numbers c = let f = c .before .before .before .before .before .before .before in
+    omega (arith, f .fed-of .ensures, f .before .before .before .pre .2)
 
 add-lesser : tie.Need-add-lesser
 add-lesser c =
     let h = c .before .before .before .before .before in
     let s = h .before .before .before .before .before in
     omega (arith, tidied s .count, s .pre .0, h .held-of .ensures)
-
-lesser-requires : tie.Need-lesser-requires
-lesser-requires c κs = search needs
-
-write-numbers-requires : tie.Need-write-numbers-requires
-write-numbers-requires c κs = search needs
-
-same-length : tie.Need-same-length
-same-length c = search needs
 
 returns : tie.Need-returns
 returns c =
@@ -63,23 +40,25 @@ returns c =
     let a = s .args in
     let b = a .rec .now in
     let h = g .held-of .result in
-    let back = part-back 8 (length b - 8) b _ (λ l. pushed (a .k) h l (a .letter)) (omega arith) (c .before .before .before .before .before .before .before .push .ensures) in
+    let back = part-back 8 (length b - 8) b _ (λ l. pushed (a .k) h l (a .letter)) (omega arith)
+    (c .before .before .before .before .before .before .before .push .ensures) in
     taken-bytes (a .k) b (s .pre .0) (tidied s) h _ (a .last) (a .letter) _ _ _ (g .held-of .ensures)
-    (add-one (f .fed-of .result) ∙ ap suc (f .fed-of .ensures)) (c .before .before .before .lesser .ensures) back (c .before .before .write-numbers .ensures)
+    (add-one (f .fed-of .result) ∙ ap suc (f .fed-of .ensures)) (c .before .before .before .lesser .ensures) back
+    (c .before .before .write-numbers .ensures)
 
 pub keep-spec : {M : Type 1} → statement M
 keep-spec =
     tie.close
     (tie.spec
-    fed-of-requires
-    held-of-requires
-    sub-push
-    part-push-start
-    part-push-end
+    (λ c κs. search needs)
+    (λ c κs. search needs)
+    (λ c. search needs)
+    (λ c. search needs)
+    (λ c. search needs)
     push-requires
     add-write-numbers
     add-lesser
-    lesser-requires
-    write-numbers-requires
-    same-length
+    (λ c κs. search needs)
+    (λ c κs. search needs)
+    (λ c. search needs)
     returns)

@@ -13,26 +13,14 @@ Inv-loop held₀ k letter last i₀ held i = (i ≤ last) × Moved held₀ i hel
 abbrev μ-loop : tie.MeasureT-loop
 μ-loop held₀ k letter last i₀ held i = last - i
 
-sub-last : tie.Need-sub-last Inv-loop μ-loop
-sub-last c = omega arith
-
 loop-holds : tie.Need-loop-holds Inv-loop μ-loop
 loop-holds c = (omega arith, moved-none _)
-
-add-held : tie.Need-add-held Inv-loop μ-loop
-add-held c = omega arith
 
 slice-read-held : tie.Need-slice-read-held Inv-loop μ-loop
 slice-read-held c = omega (arith, c .before .before .loop .inv .1 .long)
 
 slice-write-held : tie.Need-slice-write-held Inv-loop μ-loop
 slice-write-held c = omega (arith, c .before .before .loop .inv .1 .long)
-
-add-i : tie.Need-add-i Inv-loop μ-loop
-add-i c = omega arith
-
-loop-less : tie.Need-loop-less Inv-loop μ-loop
-loop-less c = omega arith
 
 loop-again : tie.Need-loop-again Inv-loop μ-loop
 loop-again c = let i = c .before .before .loop in (omega arith, moved-more (i .inv .1) (omega arith))
@@ -52,13 +40,13 @@ move-up-spec =
     (tie.spec
     Inv-loop
     μ-loop
-    sub-last
+    (λ c. omega arith)
     loop-holds
-    add-held
+    (λ c. omega arith)
     slice-read-held
     slice-write-held
-    add-i
-    loop-less
+    (λ c. omega arith)
+    (λ c. omega arith)
     loop-again
     slice-write-held-2
     same-length

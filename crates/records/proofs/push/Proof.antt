@@ -7,23 +7,12 @@ use borrow.Author.Needs.{needs}
 use Rattle.records.proofs.push.Statement.{statement}
 use Rattle.records.proofs.push.Tie as tie
 
-slice-write-held : tie.Need-slice-write-held
-slice-write-held c = search needs
-
-same-length : tie.Need-same-length
-same-length c = search needs
-
 returns : tie.Need-returns
 returns c = pushed-free _ _ _ _ (c .if1 .taken) (c .before .before .pre .1)
 
-move-up-requires : tie.Need-move-up-requires
-move-up-requires c κs = search needs
-
-same-length-2 : tie.Need-same-length-2
-same-length-2 c = search needs
-
 returns-2 : tie.Need-returns-2
-returns-2 c = let a = c .before .before .before .before .before .before .before .args in let e : a .h ≡ a .k = omega arith in rw e (c .before .before .move-up .ensures)
+returns-2 c = let a = c .before .before .before .before .before .before .before .args in let e : a .h ≡ a .k = omega arith in
+    rw e (c .before .before .move-up .ensures)
 
 returns-3 : tie.Need-returns-3
 returns-3 c = pushed-none _ _ _ _ (omega arith) (omega arith)
@@ -32,10 +21,10 @@ pub push-spec : {M : Type 1} → statement M
 push-spec =
     tie.close
     (tie.spec
-    slice-write-held
-    same-length
+    (λ c. search needs)
+    (λ c. search needs)
     returns
-    move-up-requires
-    same-length-2
+    (λ c κs. search needs)
+    (λ c. search needs)
     returns-2
     returns-3)

@@ -10,40 +10,23 @@ use borrow.Author.Needs.{needs}
 use Rattle.records.proofs.start.Statement.{statement}
 use Rattle.records.proofs.start.Tie as tie
 
-sub-clear : tie.Need-sub-clear
-sub-clear c = search needs
-
-part-clear-start : tie.Need-part-clear-start
-part-clear-start c = search needs
-
-part-clear-end : tie.Need-part-clear-end
-part-clear-end c = search needs
-
-clear-requires : tie.Need-clear-requires
-clear-requires c κs = search needs
-
-write-numbers-requires : tie.Need-write-numbers-requires
-write-numbers-requires c κs = search needs
-
-same-length : tie.Need-same-length
-same-length c = search needs
-
 returns : tie.Need-returns
 returns c =
     let s = c .before .before .before .before .before .before .before .before .before in
     let b = s .args .rec .now in
     let k = s .args .k in
-    let back = part-back 8 (length b - 8) b _ (λ l. replicate k 0 ++ drop k l) (omega arith) (c .before .before .before .before .before .before .clear .ensures) in
+    let back = part-back 8 (length b - 8) b _ (λ l. replicate k 0 ++ drop k l) (omega arith)
+    (c .before .before .before .before .before .before .clear .ensures) in
     begun-bytes k _ b _ _ (s .pre) back (c .before .before .write-numbers .ensures)
 
 pub start-spec : {M : Type 1} → statement M
 start-spec =
     tie.close
     (tie.spec
-    sub-clear
-    part-clear-start
-    part-clear-end
-    clear-requires
-    write-numbers-requires
-    same-length
+    (λ c. search needs)
+    (λ c. search needs)
+    (λ c. search needs)
+    (λ c κs. search needs)
+    (λ c κs. search needs)
+    (λ c. search needs)
     returns)

@@ -20,7 +20,8 @@ pushed k h letters a = drop (suc h - k) (take h letters ++ (a ∷ [])) ++ drop (
 -- The bytes once a letter is taken.
 unfoldable pub takenInto : ℕ → List ℕ → ℕ → ℕ → List ℕ
 takenInto k bytes a last =
-    encode k (record { fed = suc (decode bytes .fed); last = last; held = latest k (decode bytes .held ++ (a ∷ [])) }) ++ drop (heldFrom + k) bytes
+    encode k (record { fed = suc (decode bytes .fed); last = last; held = latest k (decode bytes .held ++ (a ∷ [])) }) ++ drop
+    (heldFrom + k) bytes
 
 -- The bytes of a record that no letter was fed to.
 unfoldable pub startedInto : ℕ → List ℕ → ℕ → List ℕ

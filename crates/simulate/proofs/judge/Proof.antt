@@ -36,14 +36,8 @@ in-place c = let (h, g) = and-out _ _ (c .if4 .taken) in place-lt _ _ _ _ (ltb-t
 
 -- THE NEEDS
 
-head-of-requires : tie.Need-head-of-requires
-head-of-requires c κs = search needs
-
 returns : tie.Need-returns
 returns c = judge-8 _ _ _ _ (sym (head-unfit _ (c .before .before .head-of .ensures)) ∙ c .if1 .taken)
-
-letter-off-requires : tie.Need-letter-off-requires
-letter-off-requires c κs = search needs
 
 returns-2 : tie.Need-returns-2
 returns-2 c =
@@ -56,9 +50,6 @@ sub-sets c = omega (arith, head c .fits .room)
 
 part-sets-start : tie.Need-part-sets-start
 part-sets-start c = omega (arith, head c .fits .room)
-
-part-sets-end : tie.Need-part-sets-end
-part-sets-end c = search needs
 
 judge-set-requires : tie.Need-judge-set-requires
 judge-set-requires c κs = let t = c .before .before in (head t .fit, head t .initial, letters-below _ _ (on t))
@@ -97,13 +88,13 @@ pub judge-spec : {M : Type 1} → statement M
 judge-spec =
     tie.close
     (tie.spec
-    head-of-requires
+    (λ c κs. search needs)
     returns
-    letter-off-requires
+    (λ c κs. search needs)
     returns-2
     sub-sets
     part-sets-start
-    part-sets-end
+    (λ c. search needs)
     judge-set-requires
     returns-3
     mul-set

@@ -10,9 +10,6 @@ use Rattle.walks.proofs.Letters.{letters-take}
 use Rattle.simulate.proofs.judge_set.Statement.{statement}
 use Rattle.simulate.proofs.judge_set.Tie as tie
 
-survivors-of-requires : tie.Need-survivors-of-requires
-survivors-of-requires c κs = search needs
-
 ending-requires : tie.Need-ending-requires
 ending-requires c κs =
     let p = c .before .before .before .before .pre in (p .0, rw (c .before .survivors-of .ensures 0) (setOf-lt _ _), p .2)
@@ -26,9 +23,6 @@ returns-2 c starts = of-none _ _ _ (c .before .before .survivors-of .ensures sta
 returns-3 : tie.Need-returns-3
 returns-3 c starts =
     of-one-empty _ _ _ (c .before .before .before .survivors-of .ensures starts) (omega (arith, c .before .if2 .left)) (c .if3 .taken)
-
-sub-last : tie.Need-sub-last
-sub-last c = search needs
 
 slice-aggregate-survivors-of : tie.Need-slice-aggregate-survivors-of
 slice-aggregate-survivors-of c = simp length-take (omega arith)
@@ -49,12 +43,12 @@ pub judge-set-spec : {M : Type 1} → statement M
 judge-set-spec =
     tie.close
     (tie.spec
-    survivors-of-requires
+    (λ c κs. search needs)
     ending-requires
     returns
     returns-2
     returns-3
-    sub-last
+    (λ c. search needs)
     slice-aggregate-survivors-of
     survivors-of-requires-2
     returns-4)

@@ -33,12 +33,6 @@ returns c starts =
     let t = c .before .before .before in
     sym (ap not (any-in _ _ _ (t .loop-test .taken) (some-of _ _ (c .before .before .gather .ensures .0 starts) (c .if1 .taken))))
 
-add-letter : tie.Need-add-letter Inv-loop μ-loop
-add-letter c = omega arith
-
-loop-less : tie.Need-loop-less Inv-loop μ-loop
-loop-less c = omega arith
-
 loop-again : tie.Need-loop-again Inv-loop μ-loop
 unfolding any
 loop-again c =
@@ -60,7 +54,7 @@ stuck-spec =
     loop-holds
     gather-requires
     returns
-    add-letter
-    loop-less
+    (λ c. omega arith)
+    (λ c. omega arith)
     loop-again
     returns-2)

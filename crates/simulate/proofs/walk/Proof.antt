@@ -34,17 +34,11 @@ on c = sym (c .before .letter-off .ensures) ∙ c .if3 .left
 
 -- THE NEEDS
 
-head-of-requires : tie.Need-head-of-requires
-head-of-requires c κs = search needs
-
 returns : tie.Need-returns
 returns c = walk-8 _ _ _ (sym (head-unfit _ (c .before .before .head-of .ensures)) ∙ c .if1 .taken)
 
 returns-2 : tie.Need-returns-2
 returns-2 c = walk-9 _ _ _ (head (c .before)) (c .if2 .taken)
-
-letter-off-requires : tie.Need-letter-off-requires
-letter-off-requires c κs = search needs
 
 returns-3 : tie.Need-returns-3
 returns-3 c = let t = c .before .before in walk-12 _ _ _ (head (t .before)) (room t) (sym (c .before .letter-off .ensures) ∙ c .if3 .taken)
@@ -58,17 +52,11 @@ sub-sets c = omega (arith, head (second (third c) .before) .fits .room)
 part-sets-start : tie.Need-part-sets-start
 part-sets-start c = omega (arith, head (second (third c) .before) .fits .room)
 
-part-sets-end : tie.Need-part-sets-end
-part-sets-end c = search needs
-
 trace-requires : tie.Need-trace-requires
 trace-requires c κs =
     let t = third (c .before .before) in
     let h = head (second t .before) in
     (h .fit, h .initial, c .before .before .if4 .left, letters-below _ _ (on t), room (second t))
-
-same-length : tie.Need-same-length
-same-length c = search needs
 
 returns-5 : tie.Need-returns-5
 returns-5 c =
@@ -82,15 +70,15 @@ pub walk-spec : {M : Type 1} → statement M
 walk-spec =
     tie.close
     (tie.spec
-    head-of-requires
+    (λ c κs. search needs)
     returns
     returns-2
-    letter-off-requires
+    (λ c κs. search needs)
     returns-3
     returns-4
     sub-sets
     part-sets-start
-    part-sets-end
+    (λ c. search needs)
     trace-requires
-    same-length
+    (λ c. search needs)
     returns-5)

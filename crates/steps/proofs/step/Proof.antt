@@ -6,20 +6,11 @@ use borrow.Author.Needs.{needs}
 use Rattle.steps.proofs.step.Statement.{statement}
 use Rattle.steps.proofs.step.Tie as tie
 
-enum-known-stage : tie.Need-enum-known-stage
-enum-known-stage c = search needs
-
-step-plan-requires : tie.Need-step-plan-requires
-step-plan-requires c κs = search needs
-
 enum-told : tie.Need-enum-told
 enum-told c = search needs
 
 step-letters-requires : tie.Need-step-letters-requires
 step-letters-requires c κs = rw (c .before .before .before .enum-told .given .1) at (c .before .before .before .before .before .before .pre)
-
-enum-told-2 : tie.Need-enum-told-2
-enum-told-2 c = search needs
 
 returns : tie.Need-returns
 returns c = rw (c .before .before .before .before .before .stage .given .1) (c .step-plan .ensures)
@@ -34,11 +25,11 @@ pub step-spec : {M : Type 1} → statement M
 step-spec =
     tie.close
     (tie.spec
-    enum-known-stage
-    step-plan-requires
+    (λ c. search needs)
+    (λ c κs. search needs)
     enum-told
     step-letters-requires
-    enum-told-2
+    (λ c. search needs)
     returns
     returns-2
     returns-3)

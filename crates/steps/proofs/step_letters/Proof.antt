@@ -7,20 +7,8 @@ use borrow.Author.Needs.{needs}
 use Rattle.steps.proofs.step_letters.Statement.{statement}
 use Rattle.steps.proofs.step_letters.Tie as tie
 
-finish-at-requires : tie.Need-finish-at-requires
-finish-at-requires c κs = search needs
-
 returns : tie.Need-returns
 returns c = (finishes (c .before .before .before .before .before .if1 .taken) (c .finish-at .ensures), readable-over)
-
-feed-requires : tie.Need-feed-requires
-feed-requires c κs = search needs
-
-enum-known-printed : tie.Need-enum-known-printed
-enum-known-printed c = search needs
-
-enum-known-printed-2 : tie.Need-enum-known-printed-2
-enum-known-printed-2 c = search needs
 
 finish-at-requires-2 : tie.Need-finish-at-requires-2
 finish-at-requires-2 c κs =
@@ -51,11 +39,11 @@ pub step-letters-spec : {M : Type 1} → statement M
 step-letters-spec =
     tie.close
     (tie.spec
-    finish-at-requires
+    (λ c κs. search needs)
     returns
-    feed-requires
-    enum-known-printed
-    enum-known-printed-2
+    (λ c κs. search needs)
+    (λ c. search needs)
+    (λ c. search needs)
     finish-at-requires-2
     enum-told
     returns-2

@@ -16,23 +16,11 @@ ready : (c : tie.Else1) → let a = c .before .before .before .args in
     (length (a .input .now) ≤ a .from) ⊎ (wanted (a .input .now) ≤ length (a .input .now))
 ready c = not-both _ _ _ (rw (c .before .wanted .ensures .0) at (c .if1 .left))
 
-wanted-requires : tie.Need-wanted-requires
-wanted-requires c κs = search needs
-
 returns : tie.Need-returns
 returns c =
     let (is, small) = c .before .wanted .ensures in
     let (more, few) = both-less _ _ _ (rw is at (c .if1 .taken)) in
     (rw is (reads-on more few), record { order = omega (arith, few, is); fits = omega (arith, small) })
-
-begin-requires : tie.Need-begin-requires
-begin-requires c κs = search needs
-
-enum-known-printed : tie.Need-enum-known-printed
-enum-known-printed c = search needs
-
-enum-known-printed-2 : tie.Need-enum-known-printed-2
-enum-known-printed-2 c = search needs
 
 enum-told : tie.Need-enum-told
 enum-told c = search needs
@@ -60,11 +48,11 @@ pub step-plan-spec : {M : Type 1} → statement M
 step-plan-spec =
     tie.close
     (tie.spec
-    wanted-requires
+    (λ c κs. search needs)
     returns
-    begin-requires
-    enum-known-printed
-    enum-known-printed-2
+    (λ c κs. search needs)
+    (λ c. search needs)
+    (λ c. search needs)
     enum-told
     returns-2
     returns-3

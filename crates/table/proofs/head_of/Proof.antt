@@ -15,9 +15,6 @@ sound c = sym (c .before .is-unfit .ensures) ∙ c .if1 .left
 fit : (c : tie.Else1) → Fitting (c .before .before .before .args .table .now)
 fit c = fitting _ (sound c)
 
-is-unfit-requires : tie.Need-is-unfit-requires
-is-unfit-requires c κs = search needs
-
 returns : tie.Need-returns
 returns c = rw (← c .before .is-unfit .ensures, c .if1 .taken)
 
@@ -40,7 +37,7 @@ pub head-of-spec : {M : Type 1} → statement M
 head-of-spec =
     tie.close
     (tie.spec
-    is-unfit-requires
+    (λ c κs. search needs)
     returns
     shared-slice-read-t4
     shared-slice-read-t7

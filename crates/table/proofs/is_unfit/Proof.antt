@@ -14,12 +14,6 @@ ranged c = inside _ (c .if2 .left)
 returns : tie.Need-returns
 returns c = sym (refused _ (λ f. omega (arith, f .room, c .if1 .taken)))
 
-shared-slice-read-n : tie.Need-shared-slice-read-n
-shared-slice-read-n c = search needs
-
-shared-slice-read-m : tie.Need-shared-slice-read-m
-shared-slice-read-m c = search needs
-
 returns-2 : tie.Need-returns-2
 returns-2 c = sym (refused _ (λ f. false≢true (sym (fitting-inside f) ∙ c .if2 .taken)))
 
@@ -32,32 +26,14 @@ add-end c = omega (arith, cells-le (ranged c))
 returns-3 : tie.Need-returns-3
 returns-3 c = sym (refused _ (λ f. omega (arith, f .room, c .if3 .taken)))
 
-sub-union-of : tie.Need-sub-union-of
-sub-union-of c = search needs
-
-part-union-of-start : tie.Need-part-union-of-start
-part-union-of-start c = search needs
-
-part-union-of-end : tie.Need-part-union-of-end
-part-union-of-end c = search needs
-
-union-of-requires : tie.Need-union-of-requires
-union-of-requires c κs = search needs
-
 cast-mask : tie.Need-cast-mask
 cast-mask c = omega (arith, ranged (c .before .before .before))
-
-mask-requires : tie.Need-mask-requires
-mask-requires c κs = search needs
 
 sub-result : tie.Need-sub-result
 sub-result c = ranged (c .before .before .before .before) .some-state
 
 mul-result : tie.Need-mul-result
 mul-result c = omega (arith, pairs-le _ (ranged (c .before .before .before .before) .states))
-
-shared-slice-read-result : tie.Need-shared-slice-read-result
-shared-slice-read-result c = search needs
 
 returns-4 : tie.Need-returns-4
 returns-4 c =
@@ -69,19 +45,19 @@ is-unfit-spec =
     tie.close
     (tie.spec
     returns
-    shared-slice-read-n
-    shared-slice-read-m
+    (λ c. search needs)
+    (λ c. search needs)
     returns-2
     mul-end
     add-end
     returns-3
-    sub-union-of
-    part-union-of-start
-    part-union-of-end
-    union-of-requires
+    (λ c. search needs)
+    (λ c. search needs)
+    (λ c. search needs)
+    (λ c κs. search needs)
     cast-mask
-    mask-requires
+    (λ c κs. search needs)
     sub-result
     mul-result
-    shared-slice-read-result
+    (λ c. search needs)
     returns-4)

@@ -19,114 +19,125 @@ use borrow.Author.Needs.{needs}
 use Rattle.text.proofs.begin.Statement.{statement}
 use Rattle.text.proofs.begin.Tie as tie
 
-lent : (c : tie.Else1) → let a = c .before .before .before .before .before .args in (tableSize ≤ length (a .table .now)) × (recordSize ≤ length (a .rec .now)) × (beginWidth ≤ length (a .out .now))
+lent : (c : tie.Else1) → let a =
+    c .before .before .before .before .before .args in (tableSize ≤ length (a .table .now)) × (recordSize ≤ length (a .rec .now))
+    × (beginWidth ≤ length (a .out .now))
 lent c = three-long _ _ _ _ _ _ (c .if1 .left)
 
 is-plan : (c : tie.Else2) → noPlan (c .before .before .before .before .before .before .before .args .input .now) ≡ false
 is-plan c = sym (c .before .no-plan .ensures) ∙ c .if2 .left
 
-part : (c : tie.After-total) → take (c .total .result) (c .before .before .before .before .before .before .before .before .args .input .now) ≡ planOf (c .before .before .before .before .before .before .before .before .args .input .now)
+part : (c : tie.After-total)
+    → take (c .total .result) (c .before .before .before .before .before .before .before .before .args .input .now)
+    ≡ planOf (c .before .before .before .before .before .before .before .before .args .input .now)
 part c = rw (c .total .ensures .0)
 
-ill : (c : tie.After-reading) → outcomeOfReading (Refused (c .reading .given .0 .0)) ≡ reading (planOf (c .before .before .before .before .before .before .before .before .before .before .before .before .args .input .now))
+ill : (c : tie.After-reading)
+    → outcomeOfReading (Refused (c .reading .given .0 .0))
+    ≡ reading (planOf (c .before .before .before .before .before .before .before .before .before .before .before .before .args .input .now))
 ill c = rw (c .reading .given .1, part (c .before .before .before .before)) at (c .before .before .read .ensures)
 
-counted : (c : tie.After-reading2) → let r = c .reading2 .given .0 in outcomeOfReading (Counts (r .0) (r .1 .0) (r .1 .1 .0) (r .1 .1 .1 .0)) ≡ reading (planOf (c .before .before .before .before .before .before .before .before .before .before .before .before .args .input .now))
+counted : (c : tie.After-reading2) → let r = c .reading2 .given .0 in
+    outcomeOfReading (Counts (r .0) (r .1 .0) (r .1 .1 .0) (r .1 .1 .1 .0))
+    ≡ reading (planOf (c .before .before .before .before .before .before .before .before .before .before .before .before .args .input .now))
 counted c = rw (c .reading2 .given .1, part (c .before .before .before .before)) at (c .before .before .read .ensures)
 
-counts-few : (c : tie.After-known-told2) → let r = c .before .reading2 .given .0 in length (countsLine (r .0) (r .1 .0) (r .1 .1 .0) (r .1 .1 .1 .0)) ≤ 50
+counts-few : (c : tie.After-known-told2) → let r = c .before .reading2 .given .0 in
+    length (countsLine (r .0) (r .1 .0) (r .1 .1 .0) (r .1 .1 .1 .0)) ≤ 50
 counts-few c =
     let k = c .known-told2 .given in
     counts-width _ _ _ _ (omega (arith, k)) (omega (arith, k)) (omega (arith, k)) (omega (arith, k))
 
-returns : tie.Need-returns
-returns c = search needs
-
-no-plan-requires : tie.Need-no-plan-requires
-no-plan-requires c κs = search needs
-
 refused-requires : tie.Need-refused-requires
 refused-requires c κs = record { fits = omega (arith, refused-width 1 (omega arith), lent (c .before .before .before) .2) }
 
-same-length : tie.Need-same-length
-same-length c = search needs
-
 returns-2 : tie.Need-returns-2
 returns-2 c =
-    let e = sym (c .before .before .before .before .before .no-plan .ensures) ∙ c .before .before .before .before .if2 .taken in
-    (lent (c .before .before .before .before .before .before), unread (inl e) refl refl refl, begun-no-plan (c .before .before .before .before .before .before .before .before .before .before .before .args .input .now) e (c .before .before .refused .ensures))
-
-total-requires : tie.Need-total-requires
-total-requires c κs = search needs
+    let e = sym (c .before .before .before .before .before .no-plan .ensures) ∙ c .before .before .before .before .if2 .taken in (
+      lent (c .before .before .before .before .before .before),
+      unread (inl e) refl refl refl,
+      begun-no-plan
+          (c .before .before .before .before .before .before .before .before .before .before .before .args .input .now) e
+          (c .before .before .refused .ensures),
+    )
 
 slice-aggregate-plan : tie.Need-slice-aggregate-plan
-slice-aggregate-plan c = let i = c .before .before .before .before .before .before .before .before .before .args .input .now in sym (length-take-le (c .before .total .result) i (omega (arith, c .before .total .ensures .0, whole i (is-plan (c .before .before)) .there)))
-
-read-requires : tie.Need-read-requires
-read-requires c κs = search needs
-
-enum-known-reading : tie.Need-enum-known-reading
-enum-known-reading c = search needs
+slice-aggregate-plan c = let i = c .before .before .before .before .before .before .before .before .before .args .input .now in
+    sym (length-take-le (c .before .total .result) i
+    (omega (arith, c .before .total .ensures .0, whole i (is-plan (c .before .before)) .there)))
 
 refused-requires-2 : tie.Need-refused-requires-2
-refused-requires-2 c κs = record { fits = omega (arith, refused-width (c .before .before .reading .given .0 .0) (omega (arith, c .before .known-told .given)), lent (c .before .before .before .before .before .before .before .before .before) .2) }
-
-enum-known-reading-2 : tie.Need-enum-known-reading-2
-enum-known-reading-2 c = search needs
+refused-requires-2 c κs =
+    record {
+      fits = omega (
+        arith,
+        refused-width (c .before .before .reading .given .0 .0) (omega (arith, c .before .known-told .given)),
+        lent
+            (c .before .before .before .before .before .before .before .before .before) .2,
+      );
+    }
 
 counts-requires : tie.Need-counts-requires
-counts-requires c κs = record { fits = omega (arith, counts-few (c .before), lent (c .before .before .before .before .before .before .before .before .before) .2) }
+counts-requires c κs =
+    record {
+      fits = omega
+          (arith, counts-few (c .before), lent (c .before .before .before .before .before .before .before .before .before) .2);
+    }
 
 prepared-requires : tie.Need-prepared-requires
-prepared-requires c κs = let s = c .before .before .before .before .before .before .before .before .before .before .before .before .before .before .before .before .before .before .before .before in
+prepared-requires c κs = let s =
+    c .before .before .before .before .before .before .before .before .before .before .before .before .before .before .before .before .before .before .before .before in
     let l = lent (c .before .before .before .before .before .before .before .before .before .before .before .before .before .before .before) in
-    let p = c .before .before .before .before .before .counts .ensures in
-    (rw (part (c .before .before .before .before .before .before .before .before .before .before .before .before)) (read-well (planOf (s .args .input .now)) (counted (c .before .before .before .before .before .before .before .before))), l .0, l .1, omega (arith, l .2, p .end, appended-long p, counts-few (c .before .before .before .before .before .before .before)))
-
-same-length-2 : tie.Need-same-length-2
-same-length-2 c = search needs
+    let p = c .before .before .before .before .before .counts .ensures in (
+      rw (part (c .before .before .before .before .before .before .before .before .before .before .before .before))
+          (read-well (planOf (s .args .input .now))
+          (counted (c .before .before .before .before .before .before .before .before))),
+      l .0,
+      l .1,
+      omega
+          (arith, l .2, p .end, appended-long p, counts-few (c .before .before .before .before .before .before .before)),
+    )
 
 returns-3 : tie.Need-returns-3
 returns-3 c =
-    let (ill-formed, laid) = begun-ill (c .before .before .before .before .before .before .before .before .before .before .before .before .before .before .before .before .before .args .input .now) (is-plan (c .before .before .before .before .before .before .before .before .before .before)) _ (ill (c .before .before .before .before .before)) (c .before .before .refused2 .ensures) in
-    (lent (c .before .before .before .before .before .before .before .before .before .before .before .before), unread (inr ill-formed) refl refl refl, laid)
-
-same-length-3 : tie.Need-same-length-3
-same-length-3 c = search needs
-
-same-length-4 : tie.Need-same-length-4
-same-length-4 c = search needs
-
-same-length-5 : tie.Need-same-length-5
-same-length-5 c = search needs
+    let (ill-formed, laid) =
+    begun-ill (c .before .before .before .before .before .before .before .before .before .before .before .before .before .before .before .before .before .args .input .now) (is-plan (c .before .before .before .before .before .before .before .before .before .before)) _ (ill (c .before .before .before .before .before)) (c .before .before .refused2 .ensures) in (
+      lent (c .before .before .before .before .before .before .before .before .before .before .before .before),
+      unread
+          (inr ill-formed) refl refl refl,
+      laid,
+    )
 
 returns-4 : tie.Need-returns-4
-returns-4 c = let s = c .before .before .before .before .before .before .before .before .before .before .before .before .before .before .before .before .before .before .before .before .before .before .before .before .before .before .before .args in
+returns-4 c = let s =
+    c .before .before .before .before .before .before .before .before .before .before .before .before .before .before .before .before .before .before .before .before .before .before .before .before .before .before .before .args in
     let q = c .before .before .before .before .before .before .prepared in
-    let (lays, leaves) = rw (part (c .before .before .before .before .before .before .before .before .before .before .before .before .before .before .before .before .before .before .before)) at (q .ensures) in
-    begun-well (s .input .now) (is-plan (c .before .before .before .before .before .before .before .before .before .before .before .before .before .before .before .before .before .before .before .before)) (counted (c .before .before .before .before .before .before .before .before .before .before .before .before .before .before .before)) (c .before .before .before .before .before .before .before .before .before .before .before .before .counts .ensures) (q .result) (s .table .now) (s .rec .now) (q .last .1 .0) (q .last .1 .1 .0) (q .last .1 .1 .1 .0)
+    let (lays, leaves) = rw
+    (part (c .before .before .before .before .before .before .before .before .before .before .before .before .before .before .before .before .before .before .before)) at (q .ensures) in
+    begun-well (s .input .now)
+    (is-plan (c .before .before .before .before .before .before .before .before .before .before .before .before .before .before .before .before .before .before .before .before)) (counted (c .before .before .before .before .before .before .before .before .before .before .before .before .before .before .before)) (c .before .before .before .before .before .before .before .before .before .before .before .before .counts .ensures) (q .result) (s .table .now) (s .rec .now) (q .last .1 .0) (q .last .1 .1 .0) (q .last .1 .1 .1 .0)
     (lent (c .before .before .before .before .before .before .before .before .before .before .before .before .before .before .before .before .before .before .before .before .before .before)) lays leaves
 
 pub begin-spec : {M : Type 1} → statement M
 begin-spec =
     tie.close
     (tie.spec
-    returns
-    no-plan-requires
+    (λ c. search needs)
+    (λ c κs. search needs)
     refused-requires
-    same-length
+    (λ c. search needs)
     returns-2
-    total-requires
+    (λ c κs. search needs)
     slice-aggregate-plan
-    read-requires
-    enum-known-reading
+    (λ c κs. search needs)
+    (λ c. search needs)
     refused-requires-2
-    enum-known-reading-2
+    (λ c. search needs)
     counts-requires
     prepared-requires
-    same-length-2
+    (λ c. search needs)
     returns-3
-    same-length-3
-    same-length-4
-    same-length-5
+    (λ c. search needs)
+    (λ c. search needs)
+    (λ c. search needs)
     returns-4)

@@ -21,9 +21,6 @@ returns c = ((omega arith, refl, refl), omega arith)
 loop-holds : tie.Need-loop-holds Inv-loop μ-loop
 loop-holds c = (omega arith, upto-none _ _ _ _)
 
-shared-slice-read-feed : tie.Need-shared-slice-read-feed Inv-loop μ-loop
-shared-slice-read-feed c = omega arith
-
 cast-feed : tie.Need-cast-feed Inv-loop μ-loop
 cast-feed c = omega (arith, c .shared-slice-known3 .given (c .before .before .before .loop .i))
 
@@ -31,16 +28,19 @@ feed-requires : tie.Need-feed-requires Inv-loop μ-loop
 feed-requires c κs = tt
 
 reply-requires : tie.Need-reply-requires Inv-loop μ-loop
-reply-requires c κs = let u = c .before .before .before .before .before .before .before .loop .inv .1 in omega (arith, u .few, appended-long (u .put), c .before .before .before .before .before .before .before .before .if1 .left)
+reply-requires c κs = let u = c .before .before .before .before .before .before .before .loop .inv .1 in
+    omega (arith, u .few, appended-long (u .put), c .before .before .before .before .before .before .before .before .if1 .left)
 
 is-refusal-requires : tie.Need-is-refusal-requires Inv-loop μ-loop
 is-refusal-requires c κs = tt
 
 same-length : tie.Need-same-length Inv-loop μ-loop
-same-length c = c .before .before .before .before .before .before .before .before .feed .kept .1 .0 ∙ c .before .before .before .before .before .before .before .before .before .before .before .before .loop .inv .1 .long
+same-length c = c .before .before .before .before .before .before .before .before .feed .kept .1 .0
+    ∙ c .before .before .before .before .before .before .before .before .before .before .before .before .loop .inv .1 .long
 
 same-length-2 : tie.Need-same-length-2 Inv-loop μ-loop
-same-length-2 c = c .before .before .before .before .reply .kept .0 ∙ appended-long (c .before .before .before .before .before .before .before .before .before .before .before .before .loop .inv .1 .put)
+same-length-2 c = c .before .before .before .before .reply .kept .0
+    ∙ appended-long (c .before .before .before .before .before .before .before .before .before .before .before .before .loop .inv .1 .put)
 
 returns-2 : tie.Need-returns-2 Inv-loop μ-loop
 returns-2 c = let f = c .before .before .before .before .before .before .before .before .feed .ensures in
@@ -50,16 +50,15 @@ returns-2 c = let f = c .before .before .before .before .before .before .before 
     let (fed, laid) = upto-refused u (omega arith) (f .0) (f .1) (p .0) (sym (c .before .is-refusal .ensures) ∙ c .if2 .taken) in
     ((omega (arith, lent), fed, laid), omega (arith, u .few, p .1))
 
-add-i : tie.Need-add-i Inv-loop μ-loop
-add-i c = omega arith
-
-loop-less : tie.Need-loop-less Inv-loop μ-loop
-loop-less c = omega arith
-
 loop-again : tie.Need-loop-again Inv-loop μ-loop
 loop-again c = let f = c .before .before .before .before .before .before .before .before .feed .ensures in
-    let p = c .before .before .before .before .reply .ensures in
-    (omega arith, upto-next (c .before .before .before .before .before .before .before .before .before .before .before .before .loop .inv .1) (omega arith) (f .0) (f .1) (p .0) (sym (c .before .is-refusal .ensures) ∙ c .if2 .left) (c .before .before .before .before .before .before .before .before .feed .kept .1 .0) (p .1))
+    let p = c .before .before .before .before .reply .ensures in (
+      omega arith,
+      upto-next
+          (c .before .before .before .before .before .before .before .before .before .before .before .before .loop .inv .1) (omega arith)
+          (f .0) (f .1) (p .0) (sym (c .before .is-refusal .ensures) ∙ c .if2 .left)
+          (c .before .before .before .before .before .before .before .before .feed .kept .1 .0) (p .1),
+    )
 
 same-length-3 : tie.Need-same-length-3 Inv-loop μ-loop
 same-length-3 c = c .before .loop .inv .1 .long
@@ -79,7 +78,7 @@ feed-spec =
     μ-loop
     returns
     loop-holds
-    shared-slice-read-feed
+    (λ c. omega arith)
     cast-feed
     feed-requires
     reply-requires
@@ -87,8 +86,8 @@ feed-spec =
     same-length
     same-length-2
     returns-2
-    add-i
-    loop-less
+    (λ c. omega arith)
+    (λ c. omega arith)
     loop-again
     same-length-3
     same-length-4

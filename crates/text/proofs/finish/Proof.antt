@@ -16,86 +16,90 @@ few : (c : tie.After-ended2) → let s = c .before .before .before .before .befo
     (c .ended2 .given .0 .0 ≡ length (ended (s .args .table .now) (s .args .rec .now))) × (c .ended2 .given .0 .0 ≤ 2016)
 few c =
     let (_, (e, is)) = rw (c .ended2 .given .1) at (c .before .before .before .finish .ensures) in
-    let s = c .before .before .before .before .before .before .before .before .before in
-    (e, omega (arith, e, ended-few (ended (s .args .table .now) (s .args .rec .now)) (replicate 2016 0) (c .before .before .before .finish .last .1 .1 .0) is (c .before .before .before .finish .kept .1 .1 .0)))
+    let s = c .before .before .before .before .before .before .before .before .before in (
+      e,
+      omega (
+        arith,
+        e,
+        ended-few (ended (s .args .table .now) (s .args .rec .now)) (replicate 2016 0)
+            (c .before .before .before .finish .last .1 .1 .0) is (c .before .before .before .finish .kept .1 .1 .0),
+      ),
+    )
 
 within : (c : tie.After-ended2) → c .ended2 .given .0 .0 ≤ length (c .before .before .before .finish .last .1 .1 .0)
 within c = omega (arith, few c .1, c .before .before .before .finish .kept .1 .1 .0)
 
-returns : tie.Need-returns
-returns c = search needs
-
-slice-aggregate-finish : tie.Need-slice-aggregate-finish
-slice-aggregate-finish c = search needs
-
-finish-requires : tie.Need-finish-requires
-finish-requires c κs = search needs
-
-enum-known-ended : tie.Need-enum-known-ended
-enum-known-ended c = search needs
-
 refused-requires : tie.Need-refused-requires
-refused-requires c κs = record { fits = omega (arith, refused-width (c .before .before .ended .given .0 .0) (omega (arith, c .before .known-told .given)), c .before .before .before .before .before .before .before .if1 .left) }
-
-enum-known-ended-2 : tie.Need-enum-known-ended-2
-enum-known-ended-2 c = search needs
-
-fed-of-requires : tie.Need-fed-of-requires
-fed-of-requires c κs = search needs
-
-add-less : tie.Need-add-less
-add-less c = search needs
-
-less-requires : tie.Need-less-requires
-less-requires c κs = search needs
+refused-requires c κs =
+    record {
+      fits = omega (
+        arith,
+        refused-width (c .before .before .ended .given .0 .0)
+            (omega (arith, c .before .known-told .given)),
+        c .before .before .before .before .before .before .before .if1 .left,
+      );
+    }
 
 array-share-prefix-sets : tie.Need-array-share-prefix-sets
 array-share-prefix-sets c = within (c .before .before .before .before)
 
 slice-aggregate-open-lines : tie.Need-slice-aggregate-open-lines
-slice-aggregate-open-lines c = sym (length-take-le (c .before .before .before .before .before .ended2 .given .0 .0) (c .before .before .before .before .before .before .before .before .finish .last .1 .1 .0) (within (c .before .before .before .before .before)))
+slice-aggregate-open-lines c =
+    sym (length-take-le (c .before .before .before .before .before .ended2 .given .0 .0)
+    (c .before .before .before .before .before .before .before .before .finish .last .1 .1 .0)
+    (within (c .before .before .before .before .before)))
 
 open-lines-requires : tie.Need-open-lines-requires
 open-lines-requires c κs = let e = c .before .before .before .before .before in
-    let l = length-take-le (e .ended2 .given .0 .0) (c .before .before .before .before .before .before .before .before .finish .last .1 .1 .0) (within e) in
-    rw l (omega (arith, few e .1, c .before .before .before .before .before .before .before .before .before .before .if1 .left), omega (arith, c .before .before .less .ensures, c .before .before .before .fed-of .ensures), few e .1)
-
-same-length : tie.Need-same-length
-same-length c = search needs
+    let l = length-take-le (e .ended2 .given .0 .0)
+    (c .before .before .before .before .before .before .before .before .finish .last .1 .1 .0) (within e) in
+    rw l (
+      omega (arith, few e .1, c .before .before .before .before .before .before .before .before .before .before .if1 .left),
+      omega
+          (arith, c .before .before .less .ensures, c .before .before .before .fed-of .ensures),
+      few e .1,
+    )
 
 returns-2 : tie.Need-returns-2
-returns-2 c = let (e, n, _) = rw (c .before .before .before .before .before .ended .given .1) at (c .before .before .before .before .before .before .before .before .finish .ensures) in
-    (omega (arith, c .before .before .before .before .before .before .before .before .before .before .if1 .left), finished-refused (c .before .before .before .before .before .before .before .before .before .before .before .before .before .before .args .table .now) (c .before .before .before .before .before .before .before .before .before .before .before .before .before .before .args .rec .now) _ e n (c .before .before .refused .ensures))
-
-same-length-2 : tie.Need-same-length-2
-same-length-2 c = search needs
+returns-2 c = let (e, n, _) =
+    rw (c .before .before .before .before .before .ended .given .1) at
+    (c .before .before .before .before .before .before .before .before .finish .ensures) in (
+      omega (arith, c .before .before .before .before .before .before .before .before .before .before .if1 .left),
+      finished-refused
+          (c .before .before .before .before .before .before .before .before .before .before .before .before .before .before .args .table .now) (c .before .before .before .before .before .before .before .before .before .before .before .before .before .before .args .rec .now) _ e n (c .before .before .refused .ensures),
+    )
 
 returns-3 : tie.Need-returns-3
 returns-3 c = let e = c .before .before .before .before .before .before .before .before in
     let s = c .before .before .before .before .before .before .before .before .before .before .before .before .before .before .before .before .before in
-    let (z, (_, is)) = rw (e .ended2 .given .1) at (c .before .before .before .before .before .before .before .before .before .before .before .finish .ensures) in (
+    let (z, (_, is)) = rw (e .ended2 .given .1) at
+    (c .before .before .before .before .before .before .before .before .before .before .before .finish .ensures) in (
       omega (arith, c .before .before .before .before .before .before .before .before .before .before .before .before .before .if1 .left),
-      finished-open (s .args .table .now) (s .args .rec .now) z (e .ended2 .given .0 .0) (c .before .before .before .before .before .less .result) (c .before .before .before .before .before .before .before .before .before .before .before .finish .last .1 .1 .0) _ (few e .0) is
-          (c .before .before .before .before .before .less .ensures ∙ ap (λ (x : ℕ). x + 1 - e .ended2 .given .0 .0) (c .before .before .before .before .before .before .fed-of .ensures .0)) (c .before .before .open-lines .ensures),
+      finished-open (s .args .table .now) (s .args .rec .now) z (e .ended2 .given .0 .0)
+          (c .before .before .before .before .before .less .result)
+          (c .before .before .before .before .before .before .before .before .before .before .before .finish .last .1 .1 .0) _ (few e .0) is
+          (c .before .before .before .before .before .less .ensures
+          ∙ ap (λ (x : ℕ). x + 1 - e .ended2 .given .0 .0) (c .before .before .before .before .before .before .fed-of .ensures .0))
+          (c .before .before .open-lines .ensures),
     )
 
 pub finish-spec : {M : Type 1} → statement M
 finish-spec =
     tie.close
     (tie.spec
-    returns
-    slice-aggregate-finish
-    finish-requires
-    enum-known-ended
+    (λ c. search needs)
+    (λ c. search needs)
+    (λ c κs. search needs)
+    (λ c. search needs)
     refused-requires
-    enum-known-ended-2
-    fed-of-requires
-    add-less
-    less-requires
+    (λ c. search needs)
+    (λ c κs. search needs)
+    (λ c. search needs)
+    (λ c κs. search needs)
     array-share-prefix-sets
     slice-aggregate-open-lines
     open-lines-requires
-    same-length
+    (λ c. search needs)
     returns-2
-    same-length-2
+    (λ c. search needs)
     returns-3)

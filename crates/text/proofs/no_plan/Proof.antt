@@ -5,12 +5,9 @@ use borrow.Author.Needs.{needs}
 use Rattle.text.proofs.no_plan.Statement.{statement}
 use Rattle.text.proofs.no_plan.Tie as tie
 
-total-requires : tie.Need-total-requires
-total-requires c κs = search needs
-
 returns : tie.Need-returns
 unfolding noPlan
 returns c = rw (c .total .ensures .0)
 
 pub no-plan-spec : {M : Type 1} → statement M
-no-plan-spec = tie.close (tie.spec total-requires returns)
+no-plan-spec = tie.close (tie.spec (λ c κs. search needs) returns)

@@ -17,26 +17,17 @@ abbrev μ-loop : tie.MeasureT-loop
 loop-holds : tie.Need-loop-holds Inv-loop μ-loop
 loop-holds c = (omega arith, lined-none _ _ _)
 
-add-open-line : tie.Need-add-open-line Inv-loop μ-loop
-add-open-line c = omega arith
-
-mul-open-line : tie.Need-mul-open-line Inv-loop μ-loop
-mul-open-line c = omega arith
-
-shared-slice-read-open-line : tie.Need-shared-slice-read-open-line Inv-loop μ-loop
-shared-slice-read-open-line c = omega arith
-
 open-line-requires : tie.Need-open-line-requires Inv-loop μ-loop
-open-line-requires c κs = lined-room (c .before .before .before .loop .inv .1) (omega arith) (c .before .before .before .before .before .before .pre .0) (omega arith)
-
-add-i : tie.Need-add-i Inv-loop μ-loop
-add-i c = omega arith
-
-loop-less : tie.Need-loop-less Inv-loop μ-loop
-loop-less c = omega arith
+open-line-requires c κs =
+    lined-room (c .before .before .before .loop .inv .1) (omega arith)
+    (c .before .before .before .before .before .before .pre .0) (omega arith)
 
 loop-again : tie.Need-loop-again Inv-loop μ-loop
-loop-again c = (omega arith, lined-next (c .before .before .before .before .before .before .loop .inv .1) (omega arith) (omega arith) (c .before .before .open-line .ensures))
+loop-again c = (
+  omega arith,
+  lined-next (c .before .before .before .before .before .before .loop .inv .1) (omega arith) (omega arith)
+      (c .before .before .open-line .ensures),
+)
 
 same-length : tie.Need-same-length Inv-loop μ-loop
 same-length c = appended-long (c .before .loop .inv .1 .put)
@@ -51,12 +42,12 @@ open-lines-spec =
     Inv-loop
     μ-loop
     loop-holds
-    add-open-line
-    mul-open-line
-    shared-slice-read-open-line
+    (λ c. omega arith)
+    (λ c. omega arith)
+    (λ c. omega arith)
     open-line-requires
-    add-i
-    loop-less
+    (λ c. omega arith)
+    (λ c. omega arith)
     loop-again
     same-length
     returns)

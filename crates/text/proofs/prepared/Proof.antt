@@ -32,97 +32,109 @@ ready : (c : tie.After-prepared) → let a = start c .args in let k = c .prepare
 ready c = let ((_, l), t, _) = rw (c .prepared .given .1) at (c .before .before .before .before .before .prepare .ensures) in (l, t)
 
 reads : (c : tie.After-prepared) → Reads (meaning (start c .args .plan .now)) (c .prepared .given .0 .0) (table c)
-reads c = let s = start c in let (l, t) = ready c in sized-reads (well-formed-sized (s .args .plan .now) (s .pre .0)) l (s .args .table .now) t
-
-slice-aggregate-prepare : tie.Need-slice-aggregate-prepare
-slice-aggregate-prepare c = search needs
-
-prepare-requires : tie.Need-prepare-requires
-prepare-requires c κs = search needs
-
-enum-known-prepared : tie.Need-enum-known-prepared
-enum-known-prepared c = search needs
+reads c = let s = start c in let (l, t) = ready c in
+    sized-reads (well-formed-sized (s .args .plan .now) (s .pre .0)) l (s .args .table .now) t
 
 lookahead-requires : tie.Need-lookahead-requires
-lookahead-requires c κs = record { fits = omega (arith, lookahead-width (c .before .before .prepared .given .0 .0) (omega (arith, c .before .known-told .given)), c .before .before .before .before .before .before .before .before .before .before .before .before .before .before .pre .3) }
+lookahead-requires c κs =
+    record {
+      fits = omega (
+        arith,
+        lookahead-width (c .before .before .prepared .given .0 .0)
+            (omega (arith, c .before .known-told .given)),
+        c .before .before .before .before .before .before .before .before .before .before .before .before .before .before .pre .3,
+      );
+    }
 
 opened-requires : tie.Need-opened-requires
 opened-requires c κs = let r = c .before .before .before .before .before .before .before .before in
     let l = ready r .0 in
     let t = reads r in
     let p = c .before .before .before .before .before .lookahead .ensures in
-    let s = c .before .before .before .before .before .before .before .before .before .before .before .before .before .before .before .before .before .before .before .before in
-    (t .fit, rw (t .means, t .k-is) l, s .pre .2, omega (arith, p .end, appended-long p, lookahead-width (c .before .before .before .before .before .before .before .before .prepared .given .0 .0) (omega (arith, c .before .before .before .before .before .before .before .known-told .given)), s .pre .3))
-
-enum-known-prepared-2 : tie.Need-enum-known-prepared-2
-enum-known-prepared-2 c = search needs
+    let s = c .before .before .before .before .before .before .before .before .before .before .before .before .before .before .before .before .before .before .before .before in (
+      t .fit,
+      rw (t .means, t .k-is) l,
+      s .pre .2,
+      omega (
+        arith,
+        p .end,
+        appended-long p,
+        lookahead-width
+            (c .before .before .before .before .before .before .before .before .prepared .given .0 .0)
+            (omega (arith, c .before .before .before .before .before .before .before .known-told .given)),
+        s .pre .3,
+      ),
+    )
 
 refused-requires : tie.Need-refused-requires
-refused-requires c κs = record { fits = omega (arith, refused-width (c .before .before .prepared2 .given .0 .0) (omega (arith, c .before .known-told2 .given)), c .before .before .before .before .before .before .before .before .before .before .before .before .before .before .pre .3) }
+refused-requires c κs =
+    record {
+      fits = omega (
+        arith,
+        refused-width (c .before .before .prepared2 .given .0 .0)
+            (omega (arith, c .before .known-told2 .given)),
+        c .before .before .before .before .before .before .before .before .before .before .before .before .before .before .pre .3,
+      );
+    }
 
 enum-told : tie.Need-enum-told
 enum-told c = search needs
 
 refused-requires-2 : tie.Need-refused-requires-2
-refused-requires-2 c κs = record { fits = omega (arith, refused-width 15 (omega arith), c .before .before .before .before .before .before .before .before .before .before .before .before .before .pre .3) }
-
-same-length : tie.Need-same-length
-same-length c = search needs
-
-same-length-2 : tie.Need-same-length-2
-same-length-2 c = search needs
-
-same-length-3 : tie.Need-same-length-3
-same-length-3 c = search needs
+refused-requires-2 c κs =
+    record {
+      fits = omega (
+        arith,
+        refused-width 15
+            (omega arith),
+        c .before .before .before .before .before .before .before .before .before .before .before .before .before .pre .3,
+      );
+    }
 
 returns : tie.Need-returns
 returns c = let r = c .before .before .before .before .before .before .before .before .before .before .before .before .before in
     let (l, t) = ready r in
-    let (lays, left, ends) = c .before .before .before .before .opened .ensures in
-    (counted l (reads r) (c .before .before .before .before .before .before .before .before .before .before .lookahead .ensures) (c .before .before .before .before .opened .result) (c .before .before .before .before .opened .last .1 .1 .0) (c .before .before .before .before .opened .last .1 .0) lays, opens _ l t left ends)
-
-same-length-4 : tie.Need-same-length-4
-same-length-4 c = search needs
-
-same-length-5 : tie.Need-same-length-5
-same-length-5 c = search needs
+    let (lays, left, ends) = c .before .before .before .before .opened .ensures in (
+      counted l (reads r) (c .before .before .before .before .before .before .before .before .before .before .lookahead .ensures)
+          (c .before .before .before .before .opened .result) (c .before .before .before .before .opened .last .1 .1 .0)
+          (c .before .before .before .before .opened .last .1 .0) lays,
+      opens _ l t left ends,
+    )
 
 returns-2 : tie.Need-returns-2
-returns-2 c = let s = c .before .before .before .before .before .before .before .before .before .before .before .before .before .before .before .before .before in
-    let (e, n, _, _) = prepare-refused-so (asked (s .args .plan .now)) (asked-proper (s .args .plan .now)) (rw (c .before .before .before .before .before .prepared2 .given .1) at (c .before .before .before .before .before .before .before .before .before .before .prepare .ensures)) in
+returns-2 c = let s =
+    c .before .before .before .before .before .before .before .before .before .before .before .before .before .before .before .before .before in
+    let (e, n, _, _) = prepare-refused-so (asked (s .args .plan .now)) (asked-proper (s .args .plan .now))
+    (rw (c .before .before .before .before .before .prepared2 .given .1) at
+    (c .before .before .before .before .before .before .before .before .before .before .prepare .ensures)) in
     absurd (n (e ∙ prepare-taken (s .args .plan .now) (s .pre .0) (length (s .args .table .now)) 4096 (s .pre .1) (omega arith)))
-
-same-length-6 : tie.Need-same-length-6
-same-length-6 c = search needs
-
-same-length-7 : tie.Need-same-length-7
-same-length-7 c = search needs
 
 returns-3 : tie.Need-returns-3
 returns-3 c =
-    let (_, kept, e) = rw (c .before .before .before .before .enum-told .given .1) at (c .before .before .before .before .before .before .before .before .before .prepare .ensures) in
+    let (_, kept, e) = rw (c .before .before .before .before .enum-told .given .1) at
+    (c .before .before .before .before .before .before .before .before .before .prepare .ensures) in
     (never-counted (shown-never e) (c .before .before .refused2 .ensures), unpredictable (shown-never e) refl kept refl)
 
 pub prepared-spec : {M : Type 1} → statement M
 prepared-spec =
     tie.close
     (tie.spec
-    slice-aggregate-prepare
-    prepare-requires
-    enum-known-prepared
+    (λ c. search needs)
+    (λ c κs. search needs)
+    (λ c. search needs)
     lookahead-requires
     opened-requires
-    enum-known-prepared-2
+    (λ c. search needs)
     refused-requires
     enum-told
     refused-requires-2
-    same-length
-    same-length-2
-    same-length-3
+    (λ c. search needs)
+    (λ c. search needs)
+    (λ c. search needs)
     returns
-    same-length-4
-    same-length-5
+    (λ c. search needs)
+    (λ c. search needs)
     returns-2
-    same-length-6
-    same-length-7
+    (λ c. search needs)
+    (λ c. search needs)
     returns-3)

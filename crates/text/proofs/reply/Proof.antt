@@ -13,17 +13,12 @@ use Rattle.text.proofs.reply.Tie as tie
 refused-few : (c : tie.After-known-told) → length (refusedLine (c .before .answer .given .0 .0)) ≤ 19
 refused-few c = refused-width _ (omega (arith, c .known-told .given))
 
-resolution-few : (c : tie.After-known-told2) → length (resolutionLine (c .before .answer2 .given .0 .0) (c .before .answer2 .given .0 .1 .0)) ≤ 24
+resolution-few : (c : tie.After-known-told2)
+    → length (resolutionLine (c .before .answer2 .given .0 .0) (c .before .answer2 .given .0 .1 .0)) ≤ 24
 resolution-few c = resolution-width _ _ (omega (arith, c .known-told2 .given)) (omega (arith, c .known-told2 .given))
-
-enum-known-answer : tie.Need-enum-known-answer
-enum-known-answer c = search needs
 
 refused-requires : tie.Need-refused-requires
 refused-requires c κs = record { fits = omega (arith, refused-few (c .before), c .before .before .before .before .before .pre) }
-
-enum-known-answer-2 : tie.Need-enum-known-answer-2
-enum-known-answer-2 c = search needs
 
 resolution-requires : tie.Need-resolution-requires
 resolution-requires c κs = record { fits = omega (arith, resolution-few (c .before), c .before .before .before .before .before .pre) }
@@ -31,32 +26,35 @@ resolution-requires c κs = record { fits = omega (arith, resolution-few (c .bef
 enum-told : tie.Need-enum-told
 enum-told c = search needs
 
-same-length : tie.Need-same-length
-same-length c = search needs
-
 returns : tie.Need-returns
-returns c = rw (c .before .before .before .before .before .answer .given .1) (c .before .before .refused .ensures, omega (arith, c .before .before .refused .ensures .end, refused-few (c .before .before .before .before)))
-
-same-length-2 : tie.Need-same-length-2
-same-length-2 c = search needs
+returns c = rw (c .before .before .before .before .before .answer .given .1) (
+  c .before .before .refused .ensures,
+  omega
+      (arith, c .before .before .refused .ensures .end, refused-few (c .before .before .before .before)),
+)
 
 returns-2 : tie.Need-returns-2
-returns-2 c = rw (c .before .before .before .before .before .answer2 .given .1) (c .before .before .resolution .ensures, omega (arith, c .before .before .resolution .ensures .end, resolution-few (c .before .before .before .before)))
+returns-2 c = rw (c .before .before .before .before .before .answer2 .given .1) (
+  c .before .before .resolution .ensures,
+  omega
+      (arith, c .before .before .resolution .ensures .end, resolution-few (c .before .before .before .before)),
+)
 
 returns-3 : tie.Need-returns-3
-returns-3 c = let s = c .before .before .before in rw (c .enum-told .given .1) (appended-none (s .args .at) (omega (arith, s .pre)), omega arith)
+returns-3 c = let s = c .before .before .before in
+    rw (c .enum-told .given .1) (appended-none (s .args .at) (omega (arith, s .pre)), omega arith)
 
 pub reply-spec : {M : Type 1} → statement M
 reply-spec =
     tie.close
     (tie.spec
-    enum-known-answer
+    (λ c. search needs)
     refused-requires
-    enum-known-answer-2
+    (λ c. search needs)
     resolution-requires
     enum-told
-    same-length
+    (λ c. search needs)
     returns
-    same-length-2
+    (λ c. search needs)
     returns-2
     returns-3)

@@ -28,9 +28,6 @@ slice-write-out c = omega (arith, c .before .before .before .pre .4)
 loop-holds : tie.Need-loop-holds Inv-loop μ-loop
 loop-holds c = let s = c .before .before .before in let p = s .pre in forth-first (s .args .out .now) (p .1) (p .2) (p .4)
 
-shared-slice-read-gather : tie.Need-shared-slice-read-gather Inv-loop μ-loop
-shared-slice-read-gather c = omega arith
-
 cast-gather : tie.Need-cast-gather Inv-loop μ-loop
 cast-gather c = omega (arith, c .shared-slice-known3 .given (c .before .before .loop .g))
 
@@ -53,17 +50,8 @@ returns c =
       forth-written i,
     )
 
-add-g : tie.Need-add-g Inv-loop μ-loop
-add-g c = omega arith
-
-mul-out : tie.Need-mul-out Inv-loop μ-loop
-mul-out c = omega arith
-
 slice-write-out-2 : tie.Need-slice-write-out-2 Inv-loop μ-loop
 slice-write-out-2 c = let t = c .before .before .before .before .before in omega (arith, long t, start t .pre .4)
-
-loop-less : tie.Need-loop-less Inv-loop μ-loop
-loop-less c = omega arith
 
 loop-again : tie.Need-loop-again Inv-loop μ-loop
 loop-again c =
@@ -90,15 +78,15 @@ forward-spec =
     μ-loop
     slice-write-out
     loop-holds
-    shared-slice-read-gather
+    (λ c. omega arith)
     cast-gather
     gather-requires
     same-length
     returns
-    add-g
-    mul-out
+    (λ c. omega arith)
+    (λ c. omega arith)
     slice-write-out-2
-    loop-less
+    (λ c. omega arith)
     loop-again
     same-length-2
     returns-2)

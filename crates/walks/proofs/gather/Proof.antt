@@ -5,7 +5,8 @@ use native.Mathlib.Omega.{arith}
 use lib.Count.{trailingZeros}
 use lib.ListN.{length, getD}
 use Rattle.bitset.proofs.Members.{strike-less}
-use Rattle.bitset.proofs.Taking.{Left, left-first, left-next, least-below, Joined, joined-first, joined-next, Counted, counted-first, counted-le, counted-next, counted-all}
+use Rattle.bitset.proofs.Taking.{Left, left-first, left-next, least-below, Joined, joined-first, joined-next, Counted, counted-first}
+use Rattle.bitset.proofs.Taking.{counted-le, counted-next, counted-all}
 use Rattle.semiautomata.specs.Successors.{place}
 use Rattle.walks.proofs.Steps.{place-in, gathered}
 use Rattle.walks.proofs.gather.Statement.{statement}

@@ -20,17 +20,8 @@ loop-holds : tie.Need-loop-holds Inv-loop μ-loop
 unfolding any
 loop-holds c = (omega arith, refl)
 
-shared-slice-read-off : tie.Need-shared-slice-read-off Inv-loop μ-loop
-shared-slice-read-off c = omega arith
-
 cast-off : tie.Need-cast-off Inv-loop μ-loop
 cast-off c = omega (arith, c .shared-slice-known .given (c .before .before .loop .i))
-
-add-i : tie.Need-add-i Inv-loop μ-loop
-add-i c = omega arith
-
-loop-less : tie.Need-loop-less Inv-loop μ-loop
-loop-less c = omega arith
 
 loop-again : tie.Need-loop-again Inv-loop μ-loop
 unfolding any
@@ -46,9 +37,9 @@ letter-off-spec =
     Inv-loop
     μ-loop
     loop-holds
-    shared-slice-read-off
+    (λ c. omega arith)
     cast-off
-    add-i
-    loop-less
+    (λ c. omega arith)
+    (λ c. omega arith)
     loop-again
     returns)

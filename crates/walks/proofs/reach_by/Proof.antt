@@ -22,9 +22,6 @@ abbrev μ-loop : tie.MeasureT-loop
 loop-holds : tie.Need-loop-holds Inv-loop μ-loop
 loop-holds c = (omega arith, sym (setOf-has _ _ (c .before .before .pre .1)))
 
-shared-slice-read-gather : tie.Need-shared-slice-read-gather Inv-loop μ-loop
-shared-slice-read-gather c = omega arith
-
 cast-gather : tie.Need-cast-gather Inv-loop μ-loop
 cast-gather c = omega (arith, c .shared-slice-known3 .given (c .before .before .loop .i))
 
@@ -33,12 +30,6 @@ gather-requires c κs =
     let i = c .before .before .loop in
     let p = c .before .before .before .before .before .pre in
     (p .0, rw (i .inv .1) (setOf-lt _ _), p .2 .below (i .i) (c .before .loop-test .taken))
-
-add-i : tie.Need-add-i Inv-loop μ-loop
-add-i c = omega arith
-
-loop-less : tie.Need-loop-less Inv-loop μ-loop
-loop-less c = omega arith
 
 loop-again : tie.Need-loop-again Inv-loop μ-loop
 loop-again c =
@@ -62,10 +53,10 @@ reach-by-spec =
     Inv-loop
     μ-loop
     loop-holds
-    shared-slice-read-gather
+    (λ c. omega arith)
     cast-gather
     gather-requires
-    add-i
-    loop-less
+    (λ c. omega arith)
+    (λ c. omega arith)
     loop-again
     returns)

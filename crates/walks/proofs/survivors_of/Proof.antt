@@ -18,14 +18,8 @@ returns c starts =
     let a = s .args in
     survivors-none (successors (a .n) (a .m) starts (a .sets .now)) _ (s .pre .1) (a .word .now) (c .if1 .taken)
 
-sub-last : tie.Need-sub-last
-sub-last c = search needs
-
 slice-aggregate-survivors-with : tie.Need-slice-aggregate-survivors-with
 slice-aggregate-survivors-with c = sym (length-take-le _ _ (omega arith))
-
-shared-slice-read-survivors-with : tie.Need-shared-slice-read-survivors-with
-shared-slice-read-survivors-with c = search needs
 
 cast-survivors-with : tie.Need-cast-survivors-with
 cast-survivors-with c =
@@ -47,9 +41,9 @@ survivors-of-spec =
     tie.close
     (tie.spec
     returns
-    sub-last
+    (λ c. search needs)
     slice-aggregate-survivors-with
-    shared-slice-read-survivors-with
+    (λ c. search needs)
     cast-survivors-with
     survivors-with-requires
     returns-2)

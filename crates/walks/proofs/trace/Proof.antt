@@ -17,9 +17,6 @@ start c = c .before .before .before .before .before
 at : (c : tie.After-forward) → c .forward .result ≤ length (start c .args .word .now)
 at c = longest-le _ _ (c .forward .ensures .0)
 
-forward-requires : tie.Need-forward-requires
-forward-requires c κs = search needs
-
 slice-aggregate-backward : tie.Need-slice-aggregate-backward
 slice-aggregate-backward c = sym (length-take-le _ _ (at (c .before .before .before)))
 
@@ -35,9 +32,6 @@ backward-requires c κs =
       t .forward .ensures .1 .sets,
     )
 
-same-length : tie.Need-same-length
-same-length c = search needs
-
 returns : tie.Need-returns
 returns c =
     let b = c .before .before .backward .ensures in
@@ -45,4 +39,4 @@ returns c =
     (f .0, λ starts. record { sets = b starts .sets; kept = b starts .kept ∙ f .1 .kept })
 
 pub trace-spec : {M : Type 1} → statement M
-trace-spec = tie.close (tie.spec forward-requires slice-aggregate-backward backward-requires same-length returns)
+trace-spec = tie.close (tie.spec (λ c κs. search needs) slice-aggregate-backward backward-requires (λ c. search needs) returns)

@@ -88,6 +88,7 @@ critical-set-spec =
     (λ c. omega arith)
     (λ c. omega arith)
     (λ c.
-    let i = c .before .before .before .before .loop .inv in
+    let k = c .before .before .before in
+    let i = k .before .loop .inv in
     (omega arith, below-more _ _ (i .1) (sym (c .before .has-both2 .ensures) ∙ c .if2 .left)))
     returns-3)

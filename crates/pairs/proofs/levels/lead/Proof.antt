@@ -98,8 +98,9 @@ firsts-again c =
 
 letters-again : tie.Need-letters-again Inv₃ μ₃ Inv₂ μ₂ Inv₁ μ₁
 letters-again c =
-    let i = c .before .firsts .inv in
-    let k = c .before .before .before .before in
+    let f = c .before in
+    let i = f .firsts .inv in
+    let k = f .before .before .before in
     (omega arith, i .1, below-more _ _ (k .before .letters .inv .2) (passed-all (i .0) (c .firsts-test .left) (i .2)))
 
 returns : tie.Need-returns Inv₃ μ₃ Inv₂ μ₂ Inv₁ μ₁

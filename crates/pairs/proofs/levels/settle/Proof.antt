@@ -99,10 +99,11 @@ returns c =
 
 loop-holds : tie.Need-loop-holds Inv-loop μ-loop
 loop-holds c =
-    let l = c .before .before .before .before in
+    let k = c .before in
+    let l = k .before .before .before in
     let f = entry (l .before) .pre in
     let e = masked (l .before) .mask .ensures in
-    let (w, u) = c .before .without .ensures in (
+    let (w, u) = k .without .ensures in (
       record {
         level = level-zero _ _ _ f e;
         ends = first-ends _ _ _ f e (l .share-letter .ensures .0) (l .share-letter .ensures .1) w u;

@@ -47,7 +47,7 @@ wake-row-spec =
     (λ c. omega (arith, within c))
     (λ c. within (c .before))
     (λ c κs. let k = c .before .before in let p = start k .pre in (p .0, p .2, k .loop-test .taken))
-    (λ c κs. let k = c .before .before .before .before in k .before .loop .inv .1 .long ∙ start k .pre .3)
+    (λ c κs. let g = c .before .before in let k = g .before .before in k .before .loop .inv .1 .long ∙ start k .pre .3)
     (λ c. omega arith)
     (λ c. omega arith)
     loop-again

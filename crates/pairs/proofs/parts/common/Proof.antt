@@ -17,16 +17,20 @@ Inv-loop n live rival t₀ t = (t ≤ n) × Apart live rival t
 abbrev μ-loop : tie.MeasureT-loop
 μ-loop n live rival t₀ t = n - t
 
+-- from the mask back to the turn
+abbrev turn : tie.After-mask Inv-loop μ-loop → tie.In-loop Inv-loop μ-loop
+turn c = c .before .before .before
+
 returns : tie.Need-returns Inv-loop μ-loop
 returns c =
     let w = row-some _ _ _ _ (c .before .mask .ensures) (c .if1 .taken) in (
-      (λ _. record { order = w .0; below = c .before .before .before .before .loop-test .taken; lives = w .1; rivals = w .2 }),
+      (λ _. record { order = w .0; below = turn (c .before) .loop-test .taken; lives = w .1; rivals = w .2 }),
       λ e. absurd (true≢false e),
     )
 
 loop-again : tie.Need-loop-again Inv-loop μ-loop
 loop-again c =
-    let i = c .before .before .before .before .before .loop .inv in
+    let i = turn (c .before) .before .loop .inv in
     let w = row-none _ _ _ _ (c .before .mask .ensures) (omega arith) (c .if1 .left) in
     (omega arith, record { none = below-more _ _ (i .1 .none) w })
 

@@ -27,8 +27,11 @@ abbrev μ₁ : tie.MeasureT-loop
 abbrev outer : tie.In-loop2 Inv₂ μ₂ Inv₁ μ₁ → tie.In-loop Inv₂ μ₂ Inv₁ μ₁
 outer c = c .before .before
 
+abbrev top : tie.In-loop Inv₂ μ₂ Inv₁ μ₁ → tie.Start Inv₂ μ₂ Inv₁ μ₁
+top c = c .before .before .before
+
 abbrev start : tie.In-loop2 Inv₂ μ₂ Inv₁ μ₁ → tie.Start Inv₂ μ₂ Inv₁ μ₁
-start c = outer c .before .before .before
+start c = top (outer c)
 
 within : (c : tie.In-loop2 Inv₂ μ₂ Inv₁ μ₁)
     → place (start c .args .m) (outer c .before .loop .s) (c .before .loop2 .a) < length (start c .args .sets .now)
@@ -73,7 +76,7 @@ turn-spec =
     (λ c. omega arith)
     (λ c.
     let i = c .before .loop2 .inv .1 in
-    let e : c .before .loop2 .a ≡ c .before .before .before .before .before .args .m = omega arith in
+    let e : c .before .loop2 .a ≡ top (c .before .before) .args .m = omega arith in
     (omega arith, turning-row _ (rw e at i)))
     (λ c.
     let i = c .before .loop .inv .1 in
