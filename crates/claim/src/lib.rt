@@ -83,7 +83,7 @@ fn is_true(sets: &[u64], n: usize, m: usize, starts: u64, claim: Evidence, lette
 pub fn check(plan: &[u8], claim: Evidence, letters: &[u8]) -> Checked
     ensures { λ r. ⌜ Checks (asked (now (plan .entry))) claim (now (letters .entry)) r ⌝ }
 {
-    let mut sets = [0u64; 2048];
+    let mut sets = [0u64; semiautomata::MAX_SETS];
     let loaded = plan::load(plan, &mut sets);
     match loaded {
         Loaded::Refused(r) => Checked::Refused(r),

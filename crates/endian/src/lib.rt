@@ -5,14 +5,14 @@ ghost use lib.ListN.{length};
 ghost use Rattle.endian.specs.Numbers.{numberAt, bytesOf};
 ghost use Rattle.slices.specs.Copying.{pasted};
 
-fn wide(x: u8) -> u32
+fn wide(x: u8) -> u16
     ensures { λ r. ⌜ (r ≡ x) × (r < 256) ⌝ }
 {
-    x as u32
+    x as u16
 }
 
 // The number of two bytes.
-pub fn read_2(bytes: &[u8], at: usize) -> u32
+pub fn read_2(bytes: &[u8], at: usize) -> u16
     requires { ⌜ at + 2 ≤ length (now bytes) ⌝ }
     ensures { λ r. ⌜ (r ≡ numberAt (now (bytes .entry)) at 2) × (r < 65536) ⌝ }
 {
@@ -24,8 +24,8 @@ pub fn read_4(bytes: &[u8], at: usize) -> u32
     requires { ⌜ at + 4 ≤ length (now bytes) ⌝ }
     ensures { λ r. ⌜ r ≡ numberAt (now (bytes .entry)) at 4 ⌝ }
 {
-    let low = read_2(bytes, at);
-    let high = read_2(bytes, at + 2);
+    let low = read_2(bytes, at) as u32;
+    let high = read_2(bytes, at + 2) as u32;
     low + 65536 * high
 }
 

@@ -15,7 +15,7 @@ use Rattle.plan.specs.Bytes.{planChecks, PlanCounts, reading}
 use Rattle.prepare.specs.Preparing.{short}
 use Rattle.plan.proofs.Readings.{reading-refused, reading-well}
 use Rattle.plan.proofs.Refusals.{plan-numbered}
-use Rattle.records.proofs.Copying.{copied-none, copied-next}
+use Rattle.slices.proofs.Copying.{copied-none, copied-next}
 use Rattle.gawherino.specs.Numbers.{refusing, noRoom}
 
 module _ (plan : List ℕ) where

@@ -125,7 +125,7 @@ pub extern "C" fn gawherino_look_ahead(plan: &[u8], letters: &mut [u8], evidence
 pub extern "C" fn gawherino_count(plan: &[u8]) -> u32
     ensures { λ r. ⌜ Draws (asked (now (plan .entry))) r ⌝ }
 {
-    let mut letters = [0u8; 4096];
+    let mut letters = [0u8; semiautomata::MAX_EVIDENCE];
     let counted = prepare::count(plan, &mut letters);
     match counted {
         Prepared::Ready(k) => k as u32,

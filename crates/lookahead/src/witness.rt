@@ -65,7 +65,7 @@ pub fn evidence(
     ensures { λ r. ⌜ Answers (successors n m starts (now (sets .entry))) (Answer.Never r) (now (letters .entry)) (now (letters .exit)) ⌝ }
 {
     let set = critical_set(sets, n, m, starts, low, high);
-    let mut seen = [0u16; 4096];
+    let mut seen = [0u16; semiautomata::MAX_EVIDENCE];
     let mut x = low;
     let mut y = high;
     let mut at = x * n + y;

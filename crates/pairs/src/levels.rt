@@ -174,7 +174,7 @@ pub fn settle(sets: &[u64], n: usize, m: usize, rival: &[u64; 64]) -> Levels
     let first = parts::without(n, &live, &shared);
     let mut struck = first.rows;
     let mut gone = first.any;
-    let mut back = [0u64; 2048];
+    let mut back = [0u64; semiautomata::MAX_SETS];
     while gone != 0 {
         let left = parts::without(n, &live, &struck);
         live = left.rows;

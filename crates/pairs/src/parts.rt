@@ -22,7 +22,7 @@ pub fn join(rows: &mut [u64], width: usize, at: usize, firsts: u64, seconds: u64
 }
 
 // The table turned round, into zeros: at each state and letter the states that the letter leads there.
-pub fn turn(back: &mut [u64; 2048], sets: &[u64], n: usize, m: usize)
+pub fn turn(back: &mut [u64; semiautomata::MAX_SETS], sets: &[u64], n: usize, m: usize)
     requires { ⌜ Fit n m (now sets) × Blank (now back) ⌝ }
     ensures { λ r. ⌜ (length (now (back .exit)) ≡ 2048) × Turned n m (now (sets .entry)) (now (back .exit)) ⌝ }
 {

@@ -3,7 +3,8 @@
 use Prim.Native.Nat.{ℕ}
 use mathlib.Core.Path.{_≡_}
 use Rattle.refusals.proofs.First.{Numbered}
-use Rattle.plan.specs.Asked.{Asked, refusalOf, Passes, Sized}
+use Rattle.semiautomata.specs.Sizes.{Sized}
+use Rattle.plan.specs.Asked.{Asked, refusalOf, Passes}
 
 -- the highest number of a check on plan bytes
 abbrev pub highest : ℕ

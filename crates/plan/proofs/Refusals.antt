@@ -15,7 +15,8 @@ use Rattle.refusals.specs.Checks.{within, firstOf}
 use Rattle.refusals.proofs.First.{Numbered, first-le, first-behind, first-before}
 use Rattle.plan.specs.declared.Header.{Header}
 use Rattle.plan.specs.Plan.{countOff, startHigh, startOff, lineOff}
-use Rattle.plan.specs.Asked.{refusalOf, Sized}
+use Rattle.semiautomata.specs.Sizes.{Sized}
+use Rattle.plan.specs.Asked.{refusalOf}
 use Rattle.plan.specs.Bytes.{headerOf, lineWidth, parsed, meaning, placed, misplaced, headerChecks, partChecks, planChecks}
 use Rattle.plan.specs.Bytes.{asked, refusal, WellFormed}
 use Rattle.plan.specs.inner.Steps.{Sound}

@@ -6,6 +6,7 @@ use mathlib.Core.List.{List, [], _∷_, _++_}
 use lib.Dec.{eqb, ltb, leb}
 use lib.ListN.{length, getD}
 use Rattle.semiautomata.specs.Semiautomaton.{Semiautomaton}
+use Rattle.endian.specs.Numbers.{numberAt}
 use Rattle.refusals.specs.Checks.{Check}
 use Rattle.refusals.specs.Outcomes.{Outcome, refused, answered}
 use Rattle.plan.specs.Plan.{Line, Plan, semiautomaton, countOff, startOff, lineOff, lineTwice}
@@ -14,21 +15,17 @@ use Rattle.plan.specs.declared.Header.{Header}
 use Rattle.plan.specs.declared.Reading.{Reading}
 use Rattle.plan.specs.declared.Reading.the-variants.{Counts, Refused}
 
--- The little-endian 16-bit number at a place.
-abbrev pub number : List ℕ → ℕ → ℕ
-number plan at = getD plan at 0 + 256 * getD plan (at + 1) 0
-
--- Eight of them, in order: edition, n, m, p, e, offset of starts, offset of lines, total length.
+-- Eight little-endian 16-bit numbers, in order: edition, n, m, p, e, offset of starts, offset of lines, total length.
 abbrev pub headerOf : List ℕ → Header
 headerOf plan = record {
-  edition = number plan 0;
-  n = number plan 2;
-  m = number plan 4;
-  p = number plan 6;
-  e = number plan 8;
-  starts = number plan 10;
-  lines = number plan 12;
-  total = number plan 14;
+  edition = numberAt plan 0 2;
+  n = numberAt plan 2 2;
+  m = numberAt plan 4 2;
+  p = numberAt plan 6 2;
+  e = numberAt plan 8 2;
+  starts = numberAt plan 10 2;
+  lines = numberAt plan 12 2;
+  total = numberAt plan 14 2;
 }
 
 -- A line has so many bytes: from, code, to.

@@ -2,7 +2,7 @@
 -- Assumes nothing.
 use mathlib.Core.List.{List}
 use Prim.Native.Nat.{ℕ}
-use Rattle.plan.specs.Asked.{Sized}
+use Rattle.semiautomata.specs.Sizes.{Sized}
 use Rattle.plan.specs.Bytes.{meaning, WellFormed}
 
 pub record Theorems (plan : List ℕ) : Type 0 where

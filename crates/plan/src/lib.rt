@@ -6,7 +6,7 @@ ghost use Prim.Native.Nat.{_+_, _≤_, _<_};
 ghost use lib.ListN.{length};
 ghost use Rattle.refusals.specs.Checks.{firstOf};
 ghost use Rattle.plan.specs.Plan.{countOff};
-ghost use Rattle.plan.specs.Bytes.{number, headerOf, parsedBy, misplaced, headerChecks, asked, outcomeOfReading, counts, reading};
+ghost use Rattle.plan.specs.Bytes.{headerOf, parsedBy, misplaced, headerChecks, asked, outcomeOfReading, counts, reading};
 ghost use Rattle.plan.specs.Loading.{Blank, Loads};
 ghost use Rattle.plan.specs.inner.Steps.{Sound, StartsEntered, LinesEntered};
 
@@ -43,33 +43,19 @@ pub enum Loaded {
     Refused(u8),
 }
 
-fn wide(x: u8) -> u16
-    ensures { λ r. ⌜ (r ≡ x) × (r < 256) ⌝ }
-{
-    x as u16
-}
-
-// The little-endian 16-bit number at a place.
-fn number_at(plan: &[u8], at: usize) -> u16
-    requires { ⌜ at + 1 < length (now plan) ⌝ }
-    ensures { λ r. ⌜ r ≡ number (now (plan .entry)) at ⌝ }
-{
-    wide(plan[at]) + 256 * wide(plan[at + 1])
-}
-
 fn header_of(plan: &[u8]) -> Header
     requires { ⌜ 16 ≤ length (now plan) ⌝ }
     ensures { λ r. ⌜ r ≡ headerOf (now (plan .entry)) ⌝ }
 {
     Header {
-        edition: number_at(plan, 0),
-        n: number_at(plan, 2),
-        m: number_at(plan, 4),
-        p: number_at(plan, 6),
-        e: number_at(plan, 8),
-        starts: number_at(plan, 10),
-        lines: number_at(plan, 12),
-        total: number_at(plan, 14),
+        edition: endian::read_2(plan, 0),
+        n: endian::read_2(plan, 2),
+        m: endian::read_2(plan, 4),
+        p: endian::read_2(plan, 6),
+        e: endian::read_2(plan, 8),
+        starts: endian::read_2(plan, 10),
+        lines: endian::read_2(plan, 12),
+        total: endian::read_2(plan, 14),
     }
 }
 
@@ -157,7 +143,7 @@ struct Lines {
 }
 
 // Each line whose numbers are below their counts is put into the set at its place, unless it stands there already.
-fn enter_lines(plan: &[u8], h: Header, sets: &mut [u64; 2048]) -> Lines
+fn enter_lines(plan: &[u8], h: Header, sets: &mut [u64; semiautomata::MAX_SETS]) -> Lines
     requires { ⌜ Sound (now plan) h × Blank (now sets) ⌝ }
     ensures { λ r. ⌜ LinesEntered (parsedBy h (now (plan .entry))) (now (sets .exit)) r ⌝ }
 {
@@ -199,7 +185,7 @@ fn first_of_parts(start: bool, line: bool, again: bool) -> u8
 }
 
 // What a plan means, in sets lent empty: its initial states are answered with its counts. Or its lowest refusal.
-pub fn load(plan: &[u8], sets: &mut [u64; 2048]) -> Loaded
+pub fn load(plan: &[u8], sets: &mut [u64; semiautomata::MAX_SETS]) -> Loaded
     requires { ⌜ Blank (now sets) ⌝ }
     ensures { λ r. ⌜ Loads (asked (now (plan .entry))) (counts (headerOf (now (plan .entry)))) (now (sets .exit)) r ⌝ }
 {
@@ -230,7 +216,7 @@ pub fn load(plan: &[u8], sets: &mut [u64; 2048]) -> Loaded
 pub fn read(plan: &[u8]) -> Reading
     ensures { λ r. ⌜ outcomeOfReading r ≡ reading (now (plan .entry)) ⌝ }
 {
-    let mut sets = [0u64; 2048];
+    let mut sets = [0u64; semiautomata::MAX_SETS];
     let loaded = load(plan, &mut sets);
     match loaded {
         Loaded::Refused(r) => Reading::Refused(r),

@@ -1,14 +1,13 @@
 // Walks letter by letter (document 01, Walks): a record of bytes that is opened, fed and finished on a prepared table.
 // A call is judged and decided first, by what it reads; only then is the record written, and a refused call writes nothing.
 ghost use mathlib.Core.Path.{_≡_};
-ghost use mathlib.Core.List.{_++_};
 ghost use Prim.Native.Nat.{ℕ, suc, _+_, _-_, _^_, _≤_, _<_};
-ghost use lib.ListN.{length, take, drop};
+ghost use lib.ListN.{length};
 ghost use Rattle.bitset.specs.Numbers.{has, setOf};
 ghost use Rattle.semiautomata.specs.Walks.{reach};
 ghost use Rattle.streaming.specs.PlainWalk.{limit};
 ghost use Rattle.semiautomata.specs.Successors.{successors, Fit};
-ghost use Rattle.table.specs.Table.{maxLookahead};
+ghost use Rattle.semiautomata.specs.Sizes.{maxLookahead};
 ghost use Rattle.records.specs.Bytes.{heldFrom};
 ghost use Rattle.predictor.specs.Replies.{said, isRefusal};
 ghost use Rattle.predictor.specs.Calls.{Opens, Feeds, Ends};
@@ -31,7 +30,7 @@ pub enum Ended {
 }
 
 // The most positions of a held word, its first and its last among them.
-const MAX_POSITIONS: usize = table::MAX_LOOKAHEAD + 1;
+const MAX_POSITIONS: usize = semiautomata::MAX_LOOKAHEAD + 1;
 
 // READING A RECORD
 
@@ -222,16 +221,6 @@ fn begin(rec: &mut [u8], k: usize, answer: Answer)
 
 // ENDING
 
-// So many sets of a list, at the front of a buffer that keeps its rest.
-fn copy(out: &mut [u64], sets: &[u64], count: usize)
-    requires { ⌜ (count ≤ length (now sets)) × (count ≤ length (now out)) ⌝ }
-    ensures { λ _. ⌜ now (out .exit) ≡ take count (now (sets .entry)) ++ drop count (now (out .entry)) ⌝ }
-{
-    for i in 0..count {
-        out[i] = sets[i];
-    }
-}
-
 // The possible states of the positions of a sound record that are not resolved, and how many these are.
 fn list_open(
     sets: &[u64],
@@ -251,8 +240,9 @@ fn list_open(
     let mut all = [0u64; MAX_POSITIONS];
     walks::trace(sets, n, m, base, &rec[HELD_FROM..end], &mut all);
     let count = records::lesser(held + 1, k);
-    let from = held + 1 - count;
-    copy(out, &all[from..], count);
+    let upto = held + 1;
+    let from = upto - count;
+    slices::copy_64(out, &all[from..upto]);
     count
 }
 

@@ -11,7 +11,8 @@ use Rattle.semiautomata.specs.Semiautomaton.{Semiautomaton}
 use Rattle.semiautomata.specs.Predictability.{Lookahead}
 use Rattle.semiautomata.specs.Successors.{successors}
 use Rattle.semiautomata.proofs.Bound.{lookahead-bound}
-use Rattle.plan.specs.Asked.{Asked, refusalOf, Passes, Sized}
+use Rattle.semiautomata.specs.Sizes.{Sized}
+use Rattle.plan.specs.Asked.{Asked, refusalOf, Passes}
 use Rattle.plan.specs.Loading.{Holds}
 use Rattle.plan.proofs.Asked.{Proper}
 use Rattle.table.specs.Table.{laidOut}
@@ -24,14 +25,7 @@ use Rattle.prepare.proofs.Refusals.{square, refused-passing}
 -- a table that holds the form with the look-ahead is fit and means S
 pub sized-reads : {S : Semiautomaton} → Sized S → {k : ℕ} → Lookahead S k → (old : List ℕ) {table : List ℕ} → table ≡ laidOut S k old
     → Reads S k table
-sized-reads {S} z {k} a old e = form-reads _ (record {
-  some-state = z .n-low;
-  states = z .n-high;
-  some-letter = z .m-low;
-  letters = z .m-high;
-  lookahead = lookahead-bound S (z .within) k a;
-  within = z .within;
-}) e
+sized-reads {S} z {k} a old e = form-reads _ (record { sized = z; lookahead = lookahead-bound S (z .within) k a }) e
 
 -- a look-ahead is small
 pub small : {S : Semiautomaton} → Sized S → (k : ℕ) → Lookahead S k → k ≤ 4096

@@ -60,7 +60,7 @@ fn prepare_loaded(
 pub fn prepare(plan: &[u8], table: &mut [u64], letters: &mut [u8]) -> Prepared
     ensures { λ r. ⌜ Prepares (asked (now (plan .entry))) r (now (table .entry)) (now (table .exit)) (now (letters .entry)) (now (letters .exit)) ⌝ }
 {
-    let mut sets = [0u64; 2048];
+    let mut sets = [0u64; semiautomata::MAX_SETS];
     let loaded = plan::load(plan, &mut sets);
     match loaded {
         Loaded::Refused(r) => Prepared::Refused(r),
@@ -78,7 +78,7 @@ pub fn prepare(plan: &[u8], table: &mut [u64], letters: &mut [u8]) -> Prepared
 pub fn count(plan: &[u8], letters: &mut [u8]) -> Prepared
     ensures { λ r. ⌜ CountsTo (asked (now (plan .entry))) r (now (letters .entry)) (now (letters .exit)) ⌝ }
 {
-    let mut sets = [0u64; 2048];
+    let mut sets = [0u64; semiautomata::MAX_SETS];
     let loaded = plan::load(plan, &mut sets);
     match loaded {
         Loaded::Refused(number) => Prepared::Refused(number),

@@ -3,18 +3,19 @@
 use Prim.Native.Nat.{ℕ, _+_, _-_, _*_, _/_, _%_, _^_, _≤_, _<_}
 use mathlib.Core.Bool.{Bool, true, false, not, _&&_, _||_}
 use mathlib.Core.Path.{_≡_, refl, sym, _∙_, ap}
-use mathlib.Core.List.{List, [], _∷_, _++_, append-assoc, append-nil}
+use mathlib.Core.List.{List, _∷_, _++_, append-assoc}
 use native.Mathlib.Omega.{arith}
 use lib.Dec.{eqb, leb}
-use lib.ListN.{length, getD, take, drop, replicate, length-append, length-drop, length-replicate}
-use lib.ListN.{getD-replicate, drop-of-length-le, List·getD-append}
-use lib.Seq.{take-append-seam, getD-append-add, take-all}
+use lib.ListN.{length, getD, replicate, length-append, length-replicate}
+use lib.ListN.{getD-replicate, List·getD-append}
+use lib.Seq.{take-append-seam, getD-append-add}
 use borrow.Author.Tests.{leb-true, le-leb, lt-leb, eqb-true, not-true, not-false}
 use Rattle.bitset.specs.Sets.{any}
 use Rattle.bitset.proofs.Tests.{and-out}
 use Rattle.bitset.proofs.Below.{any-none, any-not}
 use Rattle.streaming.specs.Streaming.{Rec}
-use Rattle.records.specs.Bytes.{heldFrom, bytesOf, heldCount, decode, tidy, encode}
+use Rattle.endian.specs.Numbers.{bytesOf}
+use Rattle.records.specs.Bytes.{heldFrom, heldCount, decode, tidy, encode}
 
 -- a test joined to those that passed
 pub joined : (a b : Bool) → (not a && b) ≡ not (a || not b)
@@ -95,19 +96,3 @@ module _ (k : ℕ) (bytes : List ℕ) where
       → (eqb (getD bytes 5 0) 0 && z) ≡ tidy k bytes
   unfolding tidy
   tidy-is {held} e h {z} d = rw (d, e, le-leb (heldCount bytes) k (omega arith))
-
--- A PART OF A LIST FROM a ON, LENT
-
--- up to the end: all of it is lent, and nothing stands behind it when it comes back
-pub part-whole : (a n : ℕ) (b : List ℕ) → length b ≤ a + n → take n (drop a b) ≡ drop a b
-part-whole a n b h = take-all n (drop a b) (rw length-drop (omega arith))
-
-pub part-back : (a n : ℕ) (b ys : List ℕ) (F : List ℕ → List ℕ) → length b ≤ a + n → ys ≡ F (take n (drop a b))
-    → take a b ++ (ys ++ drop n (drop a b)) ≡ take a b ++ F (drop a b)
-part-back a n b ys F h e =
-    let none : drop n (drop a b) ≡ [] = drop-of-length-le (drop a b) {i = n} (rw length-drop (omega arith)) in
-    rw (none, append-nil, e, part-whole a n b h)
-
--- up to a count
-pub part-first : (a h g : ℕ) (b : List ℕ) → h ≡ g → take (a + h - a) (drop a b) ≡ take g (drop a b)
-part-first a h g b e = let d : a + h - a ≡ g = omega arith in rw d

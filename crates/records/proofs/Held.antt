@@ -10,7 +10,8 @@ use lib.ListN.{length, take, drop, getD, set, replicate, length-drop, length-set
 use lib.Seq.{take-suc, drop-cons, set-at, set-split, getD-append-add, getD-drop, length-take-le, append-snoc, drop-drop, drop-at}
 use Rattle.streaming.specs.Streaming.{latest}
 use Rattle.streaming.proofs.Streaming.{length-snoc}
-use Rattle.records.specs.Bytes.{heldFrom, bytesOf, heldCount, decode, encode}
+use Rattle.endian.specs.Numbers.{bytesOf}
+use Rattle.records.specs.Bytes.{heldFrom, heldCount, decode, encode}
 use Rattle.records.specs.inner.Taking.{pushed, takenInto, startedInto}
 use Rattle.records.proofs.Bytes.{Tidy}
 

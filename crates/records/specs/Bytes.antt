@@ -1,26 +1,17 @@
 -- The record's bytes (document 01, Walks): legs taken in 32 bits, the last booked stake or 255, a zero byte, the held count in 16 bits, all
 -- little-endian, then from byte 8 on k bytes: the held codes, oldest first, and zeros.
 -- Assumes nothing.
-use Prim.Native.Nat.{ℕ, zero, suc, _+_, _-_, _*_, _/_, _%_}
+use Prim.Native.Nat.{ℕ, _+_, _-_}
 use mathlib.Core.Bool.{Bool, _&&_, not}
-use mathlib.Core.List.{List, [], _∷_, _++_}
+use mathlib.Core.List.{List, _∷_, _++_}
 use lib.Dec.{eqb, leb}
 use lib.ListN.{length, getD, take, drop, replicate}
+use Rattle.endian.specs.Numbers.{numberAt, bytesOf}
 use Rattle.bitset.specs.Sets.{any}
 use Rattle.streaming.specs.Streaming.{Rec}
 
 abbrev pub heldFrom : ℕ
 heldFrom = 8
-
--- The little-endian number of c bytes from a place on.
-abbrev pub numberAt : List ℕ → ℕ → ℕ → ℕ
-numberAt bytes at zero = 0
-numberAt bytes at (suc c) = getD bytes at 0 + 256 * numberAt bytes (at + 1) c
-
--- .. and its bytes.
-abbrev pub bytesOf : ℕ → ℕ → List ℕ
-bytesOf zero x = []
-bytesOf (suc c) x = x % 256 ∷ bytesOf c (x / 256)
 
 abbrev pub heldCount : List ℕ → ℕ
 heldCount bytes = numberAt bytes 6 2

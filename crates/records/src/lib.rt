@@ -8,7 +8,8 @@ ghost use lib.Dec.{eqb};
 ghost use lib.ListN.{length, getD, drop, replicate};
 ghost use Rattle.bitset.specs.Sets.{any};
 ghost use Rattle.streaming.specs.PlainWalk.{limit};
-ghost use Rattle.records.specs.Bytes.{numberAt, bytesOf, heldCount, decode, tidy};
+ghost use Rattle.endian.specs.Numbers.{numberAt, bytesOf};
+ghost use Rattle.records.specs.Bytes.{heldCount, decode, tidy};
 ghost use Rattle.records.specs.inner.Taking.{regular, pushed, takenInto, startedInto};
 
 // So many letters are taken at the most.
@@ -35,20 +36,14 @@ pub fn fed_of(rec: &[u8]) -> usize
     requires { ⌜ 8 ≤ length (now rec) ⌝ }
     ensures { λ r. ⌜ r ≡ numberAt (now (rec .entry)) 0 4 ⌝ }
 {
-    let a = wide(rec[0]);
-    let b = wide(rec[1]);
-    let c = wide(rec[2]);
-    let d = wide(rec[3]);
-    a + 256 * (b + 256 * (c + 256 * d))
+    endian::read_4(rec, 0) as usize
 }
 
 pub fn held_of(rec: &[u8]) -> usize
     requires { ⌜ 8 ≤ length (now rec) ⌝ }
     ensures { λ r. ⌜ r ≡ heldCount (now (rec .entry)) ⌝ }
 {
-    let a = wide(rec[6]);
-    let b = wide(rec[7]);
-    a + 256 * b
+    endian::read_2(rec, 6) as usize
 }
 
 // Whether so many bytes from a place on are zero.

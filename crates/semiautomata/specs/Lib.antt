@@ -1,5 +1,6 @@
 pub mod Lists
 pub mod Semiautomaton
+pub mod Sizes
 pub mod Predictability
 pub mod Walks
 pub mod Selectors

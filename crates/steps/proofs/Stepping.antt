@@ -11,7 +11,7 @@ use lib.ListN.{length, take, drop, length-drop}
 use lib.Seq.{drop-drop}
 use borrow.Author.Tests.{ltb-true, ltb-false, le-ltb}
 use Rattle.bitset.proofs.Tests.{and-out, decided}
-use Rattle.records.proofs.Bytes.{part-back, part-whole}
+use Rattle.slices.proofs.Parts.{part-back, part-whole}
 use Rattle.steps.specs.declared.Stage.{Stage}
 use Rattle.steps.specs.declared.Stage.the-variants.{Letters, Over}
 use Rattle.lines.specs.Lines.{Appended}

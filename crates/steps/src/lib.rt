@@ -73,7 +73,7 @@ fn step_plan(
     from: usize,
     upto: usize,
     input: &[u8],
-    table: &mut [u64; 2052],
+    table: &mut [u64; table::MAX_TABLE],
     rec: &mut [u8; 2024],
     out: &mut [u8; 551904],
 ) -> Next
@@ -108,7 +108,7 @@ fn step_plan(
 // Letters are fed, or the input is at its end.
 fn step_letters(
     input: &[u8],
-    table: &[u64; 2052],
+    table: &[u64; table::MAX_TABLE],
     rec: &mut [u8; 2024],
     out: &mut [u8; 551904],
 ) -> Next
@@ -147,7 +147,7 @@ fn step_letters(
 pub fn step(
     stage: Stage,
     input: &[u8],
-    table: &mut [u64; 2052],
+    table: &mut [u64; table::MAX_TABLE],
     rec: &mut [u8; 2024],
     out: &mut [u8; 551904],
 ) -> Next

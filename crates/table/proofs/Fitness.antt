@@ -20,7 +20,7 @@ use Rattle.bitset.proofs.Bits.{has-high, fits, mask-setOf, and-mask-fits, fits-
 use Rattle.semiautomata.specs.Semiautomaton.{Within}
 use Rattle.semiautomata.specs.Successors.{Fit}
 use Rattle.semiautomata.proofs.Successors.{fit-within}
-use Rattle.table.specs.Table.{maxStates, maxLetters, maxLookahead}
+use Rattle.semiautomata.specs.Sizes.{maxStates, maxLetters, maxLookahead}
 use Rattle.table.specs.Table.{statesOf, lettersOf, lookaheadOf, initialOf, setsFrom, setsOf, tableMeaning, unfit}
 
 -- what holds of a table to which refusal 8 does not apply

@@ -95,8 +95,8 @@ module _ (S : Semiautomaton) (k : ℕ) (P : Preparable S k) (rest : List ℕ) wh
 
   pub form-means : tableMeaning (tableOf S k ++ rest) ≡ S
   form-means =
-      successors-are S (P .within) _ (setsOf (tableOf S k ++ rest)) (same _ (P .within .initial-lt))
-      (λ q a t h g. ap (λ (x : ℕ). has x t) (form-set q a h g) ∙ same _ (P .within .to-lt q a) t)
+      successors-are S (P .sized .within) _ (setsOf (tableOf S k ++ rest)) (same _ (P .sized .within .initial-lt))
+      (λ q a t h g. ap (λ (x : ℕ). has x t) (form-set q a h g) ∙ same _ (P .sized .within .to-lt q a) t)
     where
       same : (X : ℕ → Bool) → ((t : ℕ) → X t ≡ true → t < S .n) → (t : ℕ) → has (setOf (S .n) X) t ≡ X t
       same X below t =
@@ -104,7 +104,8 @@ module _ (S : Semiautomaton) (k : ℕ) (P : Preparable S k) (rest : List ℕ) wh
 
   pub form-fitting : Fitting (tableOf S k ++ rest)
   form-fitting =
-      fitting-of (record { some-state = P .some-state; states = P .states; some-letter = P .some-letter; letters = P .letters })
+      let z = P .sized in
+      fitting-of (record { some-state = z .n-low; states = z .n-high; some-letter = z .m-low; letters = z .m-high })
       (rw (length-append, form-length S k) (omega arith)) (P .lookahead) (setOf-lt _ _) λ i h.
       rw (← place-of (S .n) (S .m) i h, form-set _ _ (state-lt (S .n) (S .m) i h) (letter-lt (S .n) (S .m) i h)) (setOf-lt _ _)
 

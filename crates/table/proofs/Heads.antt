@@ -10,7 +10,8 @@ use lib.Seq.{take-all}
 use Rattle.semiautomata.specs.Semiautomaton.{Semiautomaton}
 use Rattle.semiautomata.specs.Successors.{successors, Fit}
 use Rattle.table.specs.declared.Head.{Head}
-use Rattle.table.specs.Table.{maxLookahead, statesOf, lettersOf, lookaheadOf, initialOf, setsFrom, setsOf, tableMeaning}
+use Rattle.semiautomata.specs.Sizes.{maxLookahead}
+use Rattle.table.specs.Table.{statesOf, lettersOf, lookaheadOf, initialOf, setsFrom, setsOf, tableMeaning}
 use Rattle.table.specs.Table.{unfit, unread, front, headOf}
 use Rattle.table.proofs.Fitness.{Fitting, fitting, lookahead-le}
 

@@ -12,12 +12,8 @@ use Rattle.table.proofs.Form.{form-length, one-form, form-reads}
 preparable : (table : List ℕ) → unfit table ≡ false → Preparable (tableMeaning table) (lookaheadOf table)
 preparable table e =
     let f = fitting table e in record {
-      some-state = f .some-state;
-      states = f .states;
-      some-letter = f .some-letter;
-      letters = f .letters;
+      sized = record { n-low = f .some-state; n-high = f .states; m-low = f .some-letter; m-high = f .letters; within = f .within };
       lookahead = f .lookahead;
-      within = f .within;
     }
 
 pub theorems : (table : List ℕ) → Theorems table

@@ -1,31 +1,18 @@
 -- The prepared plan of document 01, a list of 64-bit numbers: n, m, k, the starts, then at 4 + stake × m + code the set of stakes led to.
 -- Assumes nothing.
-use Prim.Native.Nat.{ℕ, _+_, _-_, _*_, _/_, _^_, _≤_}
+use Prim.Native.Nat.{ℕ, _+_, _*_, _^_, _≤_}
 use mathlib.Core.Bool.{Bool, true, false, not, cond, _||_}
 use mathlib.Core.List.{List, [], _∷_, _++_, map, flatMap}
 use lib.Dec.{ltb, leb}
 use lib.ListN.{length, getD, drop}
 use Rattle.bitset.specs.Sets.{any}
 use Rattle.bitset.specs.Numbers.{setOf}
-use Rattle.semiautomata.specs.Semiautomaton.{Semiautomaton, Within}
+use Rattle.semiautomata.specs.Semiautomaton.{Semiautomaton}
+use Rattle.semiautomata.specs.Sizes.{maxStates, maxLetters, mostAhead, Sized}
 use Rattle.refusals.specs.Checks.{within}
 use Rattle.semiautomata.specs.Lists.{range}
 use Rattle.semiautomata.specs.Successors.{successors}
 use Rattle.table.specs.declared.Head.{Head}
-
--- The greatest sizes: states, letters.
-abbrev pub maxStates : ℕ
-maxStates = 64
-
-abbrev pub maxLetters : ℕ
-maxLetters = 32
-
--- The most that a look-ahead of n states can be (Theorem 5), and of any plan.
-abbrev pub mostAhead : ℕ → ℕ
-mostAhead n = n * (n - 1) / 2
-
-abbrev pub maxLookahead : ℕ
-maxLookahead = 2016
 
 -- WHAT A TABLE MEANS
 
@@ -99,9 +86,5 @@ laidOut S k old = tableOf S k ++ drop (length (tableOf S k)) old
 
 -- S has the sizes of a plan, and k is no more than a look-ahead can be.
 pub record Preparable (S : Semiautomaton) (k : ℕ) : Type 0 where
-  pub some-state : 1 ≤ S .n
-  pub states : S .n ≤ maxStates
-  pub some-letter : 1 ≤ S .m
-  pub letters : S .m ≤ maxLetters
+  pub sized : Sized S
   pub lookahead : k ≤ mostAhead (S .n)
-  pub within : Within S

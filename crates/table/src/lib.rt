@@ -8,19 +8,11 @@ ghost use Rattle.bitset.specs.Numbers.{has};
 ghost use Rattle.semiautomata.specs.Successors.{successors, Fit};
 ghost use Rattle.table.specs.Table.{setsFrom, unfit, headOf, laidOut};
 
-// The greatest sizes: states, letters, sets of a table, look-ahead, numbers of a table.
-pub const MAX_STATES: usize = 64;
-
-pub const MAX_LETTERS: usize = 32;
-
-pub const MAX_SETS: usize = MAX_STATES * MAX_LETTERS;
-
-pub const MAX_LOOKAHEAD: usize = MAX_STATES * (MAX_STATES - 1) / 2;
-
-pub const MAX_TABLE: usize = SETS_FROM + MAX_SETS;
-
 // Where the sets begin; n, m, k and the initial states stand before them.
 pub const SETS_FROM: usize = 4;
+
+// The most numbers of a table.
+pub const MAX_TABLE: usize = SETS_FROM + semiautomata::MAX_SETS;
 
 // What stands at the front of a fit table; zeros of an unfit one.
 pub struct Head {
@@ -51,7 +43,11 @@ fn is_unfit(table: &[u64]) -> bool
     }
     let n = table[0];
     let m = table[1];
-    if (n < 1) | (n > MAX_STATES as u64) | (m < 1) | (m > MAX_LETTERS as u64) {
+    if (n < 1)
+        | (n > semiautomata::MAX_STATES as u64)
+        | (m < 1)
+        | (m > semiautomata::MAX_LETTERS as u64)
+    {
         return true;
     }
     let end = SETS_FROM + n as usize * m as usize;

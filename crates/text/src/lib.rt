@@ -7,7 +7,7 @@ ghost use lib.ListN.{length, getD};
 ghost use Rattle.semiautomata.specs.Predictability.{Lookahead};
 ghost use Rattle.plan.specs.Bytes.{meaning, WellFormed};
 ghost use Rattle.table.specs.Table.{lookaheadOf, tableMeaning, unfit};
-ghost use Rattle.records.specs.Bytes.{numberAt};
+ghost use Rattle.endian.specs.Numbers.{numberAt};
 ghost use Rattle.predictor.specs.Replies.{said};
 ghost use Rattle.predictor.specs.Calls.{openedOn};
 ghost use Rattle.predictor.specs.Replies.{isRefusal};
@@ -102,7 +102,7 @@ fn prepared(plan: &[u8], table: &mut [u64], rec: &mut [u8], out: &mut [u8], at: 
     requires { ⌜ WellFormed (now plan) × (tableSize ≤ length (now table)) × (recordSize ≤ length (now rec)) × (at + 56 ≤ length (now out)) ⌝ }
     ensures { λ r. ⌜ Lays (AfterCounts (meaning (now (plan .entry)))) (now (out .entry)) at r (now (out .exit)) (now (table .exit)) (now (rec .exit)) × Leaves (meaning (now (plan .entry))) (now (table .entry)) (now (rec .entry)) (over r) (now (table .exit)) (now (rec .exit)) ⌝ }
 {
-    let mut letters = [0u8; 4096];
+    let mut letters = [0u8; semiautomata::MAX_EVIDENCE];
     let prepared = prepare::prepare(plan, table, &mut letters);
     match prepared {
         Prepared::Ready(k) => {
@@ -118,7 +118,7 @@ fn prepared(plan: &[u8], table: &mut [u64], rec: &mut [u8], out: &mut [u8], at: 
 pub fn begin(input: &[u8], table: &mut [u64], rec: &mut [u8], out: &mut [u8]) -> Printed
     ensures { λ r. ⌜ Begins (now (input .entry)) (now (table .entry)) (now (rec .entry)) r (now (table .exit)) (now (rec .exit)) (now (out .entry)) (now (out .exit)) ⌝ }
 {
-    if (table.len() < 2052) | ((rec.len() < 2024) | (out.len() < 106)) {
+    if (table.len() < table::MAX_TABLE) | ((rec.len() < 2024) | (out.len() < 106)) {
         return Printed::Short;
     }
     if no_plan(input) {
@@ -195,7 +195,7 @@ pub fn finish(table: &[u64], rec: &[u8], out: &mut [u8]) -> Printed
     if out.len() < 453600 {
         return Printed::Short;
     }
-    let mut sets = [0u64; 2016];
+    let mut sets = [0u64; semiautomata::MAX_LOOKAHEAD];
     let ended = predictor::finish(table, rec, &mut sets);
     match ended {
         Ended::Refused(number) => Printed::Ended(lines::refused(out, 0, number)),

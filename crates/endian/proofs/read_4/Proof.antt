@@ -7,9 +7,19 @@ use Rattle.endian.proofs.read_4.Tie as tie
 
 returns : tie.Need-returns
 returns c =
-    let a = c .before .before .before .args in
-    rw (c .before .read-2 .ensures .0, c .read-22 .ensures .0) (halves (a .bytes .now) (a .at))
+    let low = c .before in
+    let a = low .before .before .args in
+    rw (low .read-2 .ensures .0, c .read-22 .ensures .0) (halves (a .bytes .now) (a .at))
 
 pub read-4-spec : {M : Type 1} → statement M
-read-4-spec = tie.close
-    (tie.spec (λ c κs. search needs) (λ c. search needs) (λ c κs. search needs) (λ c. search needs) (λ c. search needs) returns)
+read-4-spec =
+    tie.close
+    (tie.spec
+    (λ c κs. search needs)
+    (λ c. search needs)
+    (λ c. search needs)
+    (λ c κs. search needs)
+    (λ c. search needs)
+    (λ c. search needs)
+    (λ c. search needs)
+    returns)

@@ -11,7 +11,7 @@ use Rattle.semiautomata.specs.Walks.{step}
 use Rattle.semiautomata.specs.Successors.{successors}
 use Rattle.streaming.specs.PlainWalk.{limit}
 use Rattle.records.specs.Bytes.{decode}
-use Rattle.records.proofs.Bytes.{part-first}
+use Rattle.slices.proofs.Parts.{part-first}
 use Rattle.predictor.proofs.Standing.{By, by-sets, from-is, from-lt, Standing, standing-some, standing-none}
 use Rattle.predictor.proofs.Judging.{judged-10, judged-11, judged-12, judged-13, reached-from, judged-nothing, judged-resolved}
 use borrow.Author.Needs.{needs}

@@ -12,7 +12,7 @@ use Rattle.bitset.proofs.Members.{ones-size}
 use Rattle.semiautomata.specs.Successors.{successors}
 use Rattle.walks.proofs.Steps.{bare, bare-within, possible-bare}
 use Rattle.walks.proofs.Letters.{letters-take, letters-drop}
-use Rattle.records.proofs.Bytes.{part-whole}
+use Rattle.slices.proofs.Parts.{part-whole}
 use Rattle.predictor.proofs.Judging.{due-set, due-sole, due-last}
 use borrow.Author.Needs.{needs}
 use Rattle.predictor.proofs.due.Statement.{statement}

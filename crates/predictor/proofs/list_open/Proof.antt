@@ -10,7 +10,7 @@ use Rattle.semiautomata.specs.Successors.{successors}
 use Rattle.streaming.specs.Streaming.{base}
 use Rattle.records.specs.Bytes.{decode}
 use Rattle.predictor.specs.inner.Parts.{standing}
-use Rattle.records.proofs.Bytes.{part-first, part-whole}
+use Rattle.slices.proofs.Parts.{part-first}
 use Rattle.predictor.proofs.Standing.{By, by-sets, from-is, from-lt, Standing, standing-some}
 use Rattle.predictor.proofs.Ending.{open-sets, open-count, base-some, held-whole}
 use borrow.Author.Needs.{needs}
@@ -78,25 +78,29 @@ trace-requires c κs =
 add-lesser : tie.Need-add-lesser
 add-lesser c = omega (arith, few (c .before .before .before .before .before .before .before))
 
-add-from : tie.Need-add-from
-add-from c = omega (arith, few (c .before .before .before .before .before .before .before .before))
+add-upto : tie.Need-add-upto
+add-upto c = omega (arith, few (c .before .before .before .before .before .before .before .before))
 
-mul-copy : tie.Need-mul-copy
-mul-copy c = omega (arith, few (c .before .before .before .before .before .before .before .before .before))
+sub-from : tie.Need-sub-from
+sub-from c = omega (arith, c .lesser .ensures)
 
-sub-copy : tie.Need-sub-copy
-sub-copy c = omega (arith, few (c .before .before .before .before .before .before .before .before .before))
+mul-copy-64 : tie.Need-mul-copy-64
+mul-copy-64 c = omega (arith, few (held-before (based (c .before .before .before))))
 
-part-copy-start : tie.Need-part-copy-start
-part-copy-start c = omega (arith, few (c .before .before .before .before .before .before .before .before .before .before))
+sub-copy-64 : tie.Need-sub-copy-64
+sub-copy-64 c = omega arith
 
-copy-requires : tie.Need-copy-requires
-copy-requires c κs = let t = c .before .before .before .before .before in
-    let h = held-before (based t) in (
-      simp (length-take, length-drop) (omega (arith, long t, few h, c .before .before .before .lesser .ensures)),
-      omega
-          (arith, c .before .before .before .lesser .ensures, start h .pre .2 .1),
-    )
+part-copy-64-start : tie.Need-part-copy-64-start
+part-copy-64-start c = omega arith
+
+part-copy-64-end : tie.Need-part-copy-64-end
+part-copy-64-end c = let t = c .before .before .before .before in omega (arith, long t, few (held-before (based t)))
+
+copy-64-requires : tie.Need-copy-64-requires
+copy-64-requires c κs =
+    let t = c .before .before .before .before .before in
+    let h = held-before (based t) in
+    simp (length-take, length-drop) (omega (arith, c .before .before .before .lesser .ensures, start h .pre .2 .1))
 
 returns : tie.Need-returns
 returns c =
@@ -116,8 +120,8 @@ returns c =
     (count .ensures) in
     let number = open-count (meaning s) (a .k) (a .rec .now) o _ (is b) (part g) w h (count .result) (g .held-of .ensures) room
     (count .ensures) in
-    let whole = part-whole (h + 1 - count .result) (2017 - (h + 1 - count .result)) all (omega (arith, long t)) in
-    (sym number, rw (number, sets) (rw whole at (c .before .before .copy .ensures)))
+    let e : h + 1 - (h + 1 - count .result) ≡ count .result = omega (arith, count .ensures) in
+    (sym number, rw (e, ← sets) at (c .before .before .copy-64 .ensures))
 
 pub list-open-spec : {M : Type 1} → statement M
 list-open-spec =
@@ -135,12 +139,12 @@ list-open-spec =
     trace-requires
     add-lesser
     (λ c κs. search needs)
-    add-from
-    (λ c. search needs)
-    mul-copy
-    sub-copy
-    part-copy-start
-    (λ c. search needs)
-    copy-requires
+    add-upto
+    sub-from
+    mul-copy-64
+    sub-copy-64
+    part-copy-64-start
+    part-copy-64-end
+    copy-64-requires
     (λ c. search needs)
     returns)

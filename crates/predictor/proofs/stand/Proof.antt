@@ -7,7 +7,8 @@ use native.Mathlib.Omega.{arith}
 use borrow.Author.Tests.{not-true, not-false}
 use Rattle.records.specs.Bytes.{heldCount, decode, tidy}
 use Rattle.records.specs.inner.Taking.{regular}
-use Rattle.records.proofs.Bytes.{tidy-out, part-first}
+use Rattle.slices.proofs.Parts.{part-first}
+use Rattle.records.proofs.Bytes.{tidy-out}
 use Rattle.predictor.proofs.Standing.{by-sets, keeps-in, from-lt, standing-untidy, standing-against, standing-walked}
 use borrow.Author.Needs.{needs}
 use Rattle.predictor.proofs.stand.Statement.{statement}

@@ -16,7 +16,7 @@ use Rattle.streaming.specs.Calls.{Reply, refused, resolved, nothing, Result, ch
 use Rattle.refusals.specs.Checks.{Check}
 use Rattle.streaming.specs.PlainWalk.{limit}
 use Rattle.streaming.specs.Streaming.{base, rules, every, after, unopened, takeChecks, settledBy, finish}
-use Rattle.table.specs.Table.{maxLookahead}
+use Rattle.semiautomata.specs.Sizes.{maxLookahead}
 use Rattle.records.specs.Bytes.{heldFrom, decode, tidy}
 use Rattle.predictor.specs.Replies.{isRefusal}
 use Rattle.predictor.specs.Calls.{bytesCheck, written, onto}

@@ -4,7 +4,8 @@ use Prim.Native.Nat.{ℕ, _^_, _<_}
 use mathlib.Core.List.{List, []}
 use Rattle.semiautomata.specs.Semiautomaton.{Semiautomaton}
 use Rattle.semiautomata.specs.Successors.{successors, Fit}
-use Rattle.plan.specs.Asked.{Asked, Sized}
+use Rattle.semiautomata.specs.Sizes.{Sized}
+use Rattle.plan.specs.Asked.{Asked}
 
 -- The numbers hold a semiautomaton within the counts of a plan.
 pub record Held (n m starts : ℕ) (sets : List ℕ) : Type 0 where

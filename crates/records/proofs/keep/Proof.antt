@@ -7,7 +7,8 @@ use native.Mathlib.Omega.{arith}
 use lib.ListN.{length, length-take, length-drop}
 use Rattle.streaming.specs.PlainWalk.{limit}
 use Rattle.records.specs.inner.Taking.{pushed}
-use Rattle.records.proofs.Bytes.{Tidy, tidy-out, part-back}
+use Rattle.slices.proofs.Parts.{part-back}
+use Rattle.records.proofs.Bytes.{Tidy, tidy-out}
 use Rattle.records.proofs.Held.{taken-bytes}
 use borrow.Author.Needs.{needs}
 use Rattle.records.proofs.keep.Statement.{statement}

@@ -4,7 +4,7 @@ use Prim.Native.Nat.{_-_}
 use mathlib.Core.List.{_++_}
 use native.Mathlib.Omega.{arith}
 use lib.ListN.{length, drop, replicate}
-use Rattle.records.proofs.Bytes.{part-back}
+use Rattle.slices.proofs.Parts.{part-back}
 use Rattle.records.proofs.Held.{begun-bytes}
 use borrow.Author.Needs.{needs}
 use Rattle.records.proofs.start.Statement.{statement}

@@ -4,7 +4,7 @@ use mathlib.Core.List.{_∷_, _++_}
 use native.Mathlib.Omega.{arith}
 use lib.ListN.{length-set}
 use lib.Seq.{sets-eq}
-use Rattle.records.specs.Bytes.{bytesOf}
+use Rattle.endian.specs.Numbers.{bytesOf}
 use borrow.Author.Needs.{needs}
 use Rattle.records.proofs.write_numbers.Statement.{statement}
 use Rattle.records.proofs.write_numbers.Tie as tie
