@@ -131,17 +131,17 @@ static inline uint32_t gawherino_refusal(uint32_t answer)
 /* Bytes of stack that a call took at most where conformance/stack.sh measured it, rounded up; the greatest of them. Where memcpy, memmove or
  * memset is bound at its first call, the dynamic linker's stack comes on top. */
 #define GAWHERINO_STACK_READ 16640u
-#define GAWHERINO_STACK_PREPARE 37888u
-#define GAWHERINO_STACK_LOOK_AHEAD 37888u
-#define GAWHERINO_STACK_COUNT 41984u
-#define GAWHERINO_STACK_CHECK 33280u
+#define GAWHERINO_STACK_PREPARE 36864u
+#define GAWHERINO_STACK_LOOK_AHEAD 36864u
+#define GAWHERINO_STACK_COUNT 40960u
+#define GAWHERINO_STACK_CHECK 16896u
 #define GAWHERINO_STACK_WALK 256u
 #define GAWHERINO_STACK_JUDGE 512u
 #define GAWHERINO_STACK_OPEN 256u
 #define GAWHERINO_STACK_FEED 256u
 #define GAWHERINO_STACK_FINISH 16384u
 #define GAWHERINO_STACK_GROUP 256u
-#define GAWHERINO_MAX_STACK 41984u
+#define GAWHERINO_MAX_STACK 40960u
 
 /* FORMS
  *

@@ -20,21 +20,21 @@ pub struct Evidence {
     pub cycle: u32,
 }
 
-pub enum Answer {
+pub enum Found {
     Lookahead(usize),
     Never(Evidence),
 }
 
 // The look-ahead, or the evidence that there is none, with its letters from the buffer's front.
-pub fn look_ahead(sets: &[u64], n: usize, m: usize, starts: u64, letters: &mut [u8]) -> Answer
+pub fn look_ahead(sets: &[u64], n: usize, m: usize, starts: u64, letters: &mut [u8]) -> Found
     requires { ⌜ Fit n m (now sets) × (starts < 2 ^ n) × (n * n ≤ length (now letters)) ⌝ }
     ensures { λ r. ⌜ Answers (successors n m starts (now (sets .entry))) r (now (letters .entry)) (now (letters .exit)) ⌝ }
 {
     let rival = rivals::rivals(sets, n, m, starts);
     let found = pairs::levels::settle(sets, n, m, &rival);
     if !found.stable {
-        return Answer::Lookahead(found.rounds);
+        return Found::Lookahead(found.rounds);
     }
     let live = found.live;
-    Answer::Never(witness::evidence(sets, n, m, starts, &live, found.low, found.high, letters))
+    Found::Never(witness::evidence(sets, n, m, starts, &live, found.low, found.high, letters))
 }

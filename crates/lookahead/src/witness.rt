@@ -1,7 +1,7 @@
 // The witness that there is no look-ahead: the name of a critical set with two states that share words of every length, and a stem and a
 // cycle that both can follow.
-use crate::Answer;
 use crate::Evidence;
+use crate::Found;
 ghost use mathlib.Core.Bool.{_&&_};
 ghost use mathlib.Core.Path.{_≡_};
 ghost use Prim.Native.Nat.{_*_, _^_, _≤_, _<_};
@@ -62,7 +62,7 @@ pub fn evidence(
 ) -> Evidence
     requires { ⌜ Endless n m starts (now sets) (now live) low high ⌝ }
     requires { ⌜ Fit n m (now sets) × (starts < 2 ^ n) × (n * n ≤ length (now letters)) ⌝ }
-    ensures { λ r. ⌜ Answers (successors n m starts (now (sets .entry))) (Answer.Never r) (now (letters .entry)) (now (letters .exit)) ⌝ }
+    ensures { λ r. ⌜ Answers (successors n m starts (now (sets .entry))) (Found.Never r) (now (letters .entry)) (now (letters .exit)) ⌝ }
 {
     let set = critical_set(sets, n, m, starts, low, high);
     let mut seen = [0u16; semiautomata::MAX_EVIDENCE];

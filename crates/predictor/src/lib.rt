@@ -46,7 +46,7 @@ fn base_of(k: usize, starts: u64, fed: usize, last: u8) -> u64
 }
 
 // The states that a word leads to from a set, whatever its bytes are: a letter of m or more leads nowhere.
-fn walk(sets: &[u64], n: usize, m: usize, set: u64, word: &[u8]) -> u64
+fn follow(sets: &[u64], n: usize, m: usize, set: u64, word: &[u8]) -> u64
     requires { ⌜ Fit n m (now sets) × (set < 2 ^ n) ⌝ }
     ensures { λ r. ⌜ ((starts : ℕ) → r ≡ setOf n (reach (successors n m starts (now (sets .entry))) (has set) (now (word .entry)))) ⌝ }
 {
@@ -72,7 +72,7 @@ fn stand(sets: &[u64], n: usize, m: usize, k: usize, starts: u64, rec: &[u8]) ->
     }
     let base = base_of(k, starts, fed, last);
     let end = HELD_FROM + held;
-    walk(sets, n, m, base, &rec[HELD_FROM..end])
+    follow(sets, n, m, base, &rec[HELD_FROM..end])
 }
 
 // DECIDING

@@ -4,8 +4,8 @@ ghost use Rattle.semiautomata.specs.Successors.{successors};
 ghost use Rattle.plan.specs.Bytes.{asked};
 ghost use Rattle.prepare.specs.Preparing.{Prepares, CountsTo};
 ghost use Rattle.prepare.specs.inner.Steps.{Held, plain};
-use lookahead::Answer;
 use lookahead::Evidence;
+use lookahead::Found;
 use plan::Loaded;
 
 // What preparing and the count call answer: the look-ahead, a refusal, or (15) the evidence that there is no look-ahead.
@@ -25,8 +25,8 @@ fn count_loaded(sets: &[u64], n: usize, m: usize, starts: u64, letters: &mut [u8
     }
     let answer = lookahead::look_ahead(sets, n, m, starts, letters);
     match answer {
-        Answer::Lookahead(k) => Prepared::Ready(k),
-        Answer::Never(evidence) => Prepared::Unpredictable(evidence),
+        Found::Lookahead(k) => Prepared::Ready(k),
+        Found::Never(evidence) => Prepared::Unpredictable(evidence),
     }
 }
 

@@ -52,13 +52,13 @@ tableTests table =
     ∷ []
 
 -- some test of a list holds
-abbrev pub some : List Bool → Bool
-some [] = false
-some (b ∷ bs) = b || some bs
+abbrev pub oneOf : List Bool → Bool
+oneOf [] = false
+oneOf (b ∷ bs) = b || oneOf bs
 
 -- Refusal 8 applies.
 unfoldable pub unfit : List ℕ → Bool
-unfit table = some (tableTests table)
+unfit table = oneOf (tableTests table)
 
 -- The head of a table: that it is fit, n, m, k and the set of initial states; zeros where refusal 8 applies.
 abbrev pub front : List ℕ → Head

@@ -17,7 +17,7 @@ use Rattle.predictor.specs.Replies.{isRefusal}
 use Rattle.text.specs.declared.Printed.{Printed}
 use Rattle.text.specs.declared.Printed.the-variants.{Going, Ended, Short}
 use Rattle.lines.specs.Lines.{refusedLine, Appended}
-use Rattle.text.specs.Report.{planOf, lettersOf, noPlan, openText, walkText, Reports}
+use Rattle.text.specs.Report.{planOf, legsOf, noPlan, openText, walkText, Reports}
 
 -- What is lent: sets for an ending, numbers for a table, bytes for a record; bytes that the first lines, the line of a letter and an open
 -- line take at the most.
@@ -134,7 +134,7 @@ Roomy table bytes old = (tableSize ≤ length table) × (recordSize ≤ length b
 abbrev pub Begins : List ℕ → List ℕ → List ℕ → Printed → List ℕ → List ℕ → List ℕ → List ℕ → Type 0
 Begins input table bytes (Going r) table′ left old out =
     Roomy table bytes old × LeavesOf input table bytes false table′ left
-    × Laid (ReportText input) old 0 r out (λ rest. walkOn table′ left (lettersOf input ++ rest))
+    × Laid (ReportText input) old 0 r out (λ rest. walkOn table′ left (legsOf input ++ rest))
 Begins input table bytes (Ended r) table′ left old out =
     Roomy table bytes old × LeavesOf input table bytes true table′ left × Laid (ReportText input) old 0 r out (λ rest. [])
 Begins input table bytes Short table′ left old out =

@@ -52,11 +52,11 @@ returns-2 c =
 add-end : tie.Need-add-end
 add-end c = let e = from-2 (c .before) in omega (arith, count e, start e .pre .2)
 
-part-walk-end : tie.Need-part-walk-end
-part-walk-end c = let e = from-2 (c .before) in omega (arith, count e, start e .pre .2)
+part-follow-end : tie.Need-part-follow-end
+part-follow-end c = let e = from-2 (c .before) in omega (arith, count e, start e .pre .2)
 
-walk-requires : tie.Need-walk-requires
-walk-requires c κs =
+follow-requires : tie.Need-follow-requires
+follow-requires c κs =
     let d = c .before .before in
     let e = from-2 d in
     let s = start e in
@@ -74,7 +74,7 @@ returns-3 c =
     let held = e .before .before .before in
     standing-walked _ (s .args .k) (s .args .rec .now) (s .pre .2) (by-sets (s .pre .0) (s .pre .1)) (tidied e) (regulars d)
     (c .before .before .base-of .ensures) (held .before .fed-of .ensures)
-    (part-first 8 _ _ (s .args .rec .now) (held .held-of .ensures)) (c .walk .ensures (s .args .starts))
+    (part-first 8 _ _ (s .args .rec .now) (held .held-of .ensures)) (c .follow .ensures (s .args .starts))
 
 pub stand-spec : {M : Type 1} → statement M
 stand-spec =
@@ -92,6 +92,6 @@ stand-spec =
     add-end
     (λ c. search needs)
     (λ c. search needs)
-    part-walk-end
-    walk-requires
+    part-follow-end
+    follow-requires
     returns-3)

@@ -1,11 +1,11 @@
--- `walk` meets its contract.
+-- `follow` meets its contract.
 -- Assumes nothing.
 use mathlib.Core.Path.{sym, _∙_}
 use Rattle.walks.proofs.Letters.{letters-below}
 use Rattle.predictor.proofs.Letters.{stray-none}
 use borrow.Author.Needs.{needs}
-use Rattle.predictor.proofs.walk.Statement.{statement}
-use Rattle.predictor.proofs.walk.Tie as tie
+use Rattle.predictor.proofs.follow.Statement.{statement}
+use Rattle.predictor.proofs.follow.Tie as tie
 
 returns : tie.Need-returns
 returns c = let s = c .before .before .before .before in
@@ -15,5 +15,5 @@ reach-by-requires : tie.Need-reach-by-requires
 reach-by-requires c κs = let p = c .before .before .before .before .pre in
     (p .0, p .1, letters-below _ _ (sym (c .before .letter-off .ensures) ∙ c .if1 .left))
 
-pub walk-spec : {M : Type 1} → statement M
-walk-spec = tie.close (tie.spec (λ c κs. search needs) returns reach-by-requires (λ c. search needs))
+pub follow-spec : {M : Type 1} → statement M
+follow-spec = tie.close (tie.spec (λ c κs. search needs) returns reach-by-requires (λ c. search needs))
