@@ -1,4 +1,4 @@
-/* Gawherino for C: every call on plans, tables and records, over plain numbers and lent slices. Version 1.0.0.
+/* Gawherino for C: every call on plans, tables and records, over plain numbers and lent slices. Version 1.0.1.
  *
  * USE. The plan's bytes are in plan; the logger gives one code for each leg. No call allocates, so room is lent:
  *
@@ -45,7 +45,7 @@ extern "C" {
  * number, a further call the second. */
 #define GAWHERINO_VERSION_MAJOR 1
 #define GAWHERINO_VERSION_MINOR 0
-#define GAWHERINO_VERSION_PATCH 0
+#define GAWHERINO_VERSION_PATCH 1
 
 /* ANSWERS */
 

@@ -153,11 +153,11 @@ pub fn batch(r: &mut Random) -> (Vec<u8>, Vec<Case>) {
     };
     if k < 300 || r.percent(10) {
         cases.extend(table_calls(r, &table, &plan, k));
-        let mut damaged = table;
-        tables::damage(r, &mut damaged);
-        let calls = table_calls(r, &damaged, &plan, k);
-        cases.push(r.pick(&calls));
     }
+    let mut damaged = table;
+    tables::damage(r, &mut damaged);
+    let calls = table_calls(r, &damaged, &plan, k);
+    cases.push(r.pick(&calls));
     let (low, any) = (r.below(20) as u32, r.next() as u32);
     cases.push(Case::group(r.pick(&[low, 256 + low, REFUSED + low, any])));
     (bytes, cases)

@@ -24,7 +24,8 @@ fn check(case: &Case, subject: &dyn Calls, tally: &mut Tally, origin: &str) {
 
 /// The evidence that the subject itself gives for a sound plan, and claims near to it.
 fn own_evidence(plan: &[u8], r: &mut Random, subject: &dyn Calls) -> Vec<Case> {
-    let meaning = read(plan).expect("sound").plan;
+    let Ok(read) = read(plan) else { return vec![] };
+    let meaning = read.plan;
     let (mut codes, mut claim) = (pattern(letters(meaning.n)), [0; evidence::NUMBERS]);
     if subject.look_ahead(plan, &mut codes, &mut claim) != REFUSED + 15 {
         return vec![];

@@ -168,7 +168,7 @@ AllSaid (r ∷ rs) = AllComputed (meaning (bytes (r .sample))) (r .sayings) × A
 
 all-rows : (rs : List Row) → AllHold rs → AllSaid rs → AllRows rs
 all-rows [] _ _ = tt
-all-rows (r ∷ rs) (h, hs) (c, cs) = (row-holds r h c, all-rows rs hs cs)
+all-rows (r ∷ rs) (h, hs) (c, cs) = (h, row-holds r h c, all-rows rs hs cs)
 
 rows-said : AllSaid rows
 unfolding any spells step possible walkable greatest longest selector minimalSelector maximalNonselector setOf size clashIn clash live

@@ -21,10 +21,9 @@ use Rattle.refusals.proofs.First.{first-passed}
 use Rattle.streaming.proofs.Streaming.{opened-none, opened-some, opened-agrees, never-14}
 use Rattle.streaming.proofs.Demand3 as over-meaning
 use Rattle.semiautomata.proofs.Bound.{lookahead-bound, lookahead-bound-one}
-use Rattle.plan.specs.Asked.{Asked}
+use Rattle.plan.specs.Asked.{Asked, Proper}
 use Rattle.plan.specs.Bytes.{meaning, asked}
 use Rattle.plan.proofs.Refusals.{well-formed-within, asked-proper}
-use Rattle.plan.proofs.Asked.{Proper}
 use Rattle.prepare.proofs.Theorems.{table-read, theorems as preparing-theorems}
 use Rattle.table.specs.Table.{lookaheadOf, tableMeaning, unfit}
 use Rattle.table.proofs.Fitness.{fitting, lookahead-le}
@@ -33,7 +32,7 @@ use Rattle.predictor.specs.declared.Answer.{Answer}
 use Rattle.records.specs.Bytes.{heldFrom, decode, tidy}
 use Rattle.predictor.specs.Replies.{said}
 use Rattle.predictor.specs.Calls.{letterChecks, written, openedOn, fedOn, Opens}
-use Rattle.demand.specs.Demand.{Made, Walk, Taken, Theorems, DemandMet}
+use Rattle.demand.specs.Demand.{Made, Walk, Taken, Theorems, Met, DemandMet}
 use Rattle.predictor.proofs.Following.{Holds, Small, encode-holds, follows-small, opened-is}
 use Rattle.demand.proofs.Feeding.{feeding-replies}
 
@@ -148,6 +147,9 @@ module _ (A : Asked) (P : Proper A) (k : ℕ) (table : List ℕ) (made : Made A 
   walked-right offered first answers w taken =
       let (s, e) = started (w .bytes) first (w .left) (w .room) (w .opening) taken in
       rw (t .means, t .k-is) at (on-demand3 table (t .fit) (here .enough) s (same s ∙ e) here offered first answers (rw (t .k-is) w))
+
+pub met : Met
+met = theorems
 
 pub demand : DemandMet
 demand plan w =

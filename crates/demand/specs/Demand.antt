@@ -9,7 +9,7 @@ use lib.ListN.{length}
 use Rattle.semiautomata.specs.Predictability.{Lookahead}
 use Rattle.streaming.specs.Calls.{refused}
 use Rattle.streaming.specs.Demand3.{Demand3}
-use Rattle.plan.specs.Asked.{Asked}
+use Rattle.plan.specs.Asked.{Asked, Proper}
 use Rattle.plan.specs.Bytes.{asked, WellFormed}
 use Rattle.table.specs.Table.{setsFrom}
 use Rattle.lookahead.specs.declared.Evidence.{Evidence}
@@ -61,6 +61,10 @@ pub record Theorems (A : Asked) (k : ℕ) (table : List ℕ) (made : Made A k ta
       → Taken a ↔ ((s : ℕ) × (A .means .initial s ≡ true))
   -- 14 is met on no record at all, whatever its bytes are
   pub never-14 : (bytes : List ℕ) (letter : ℕ) (a : Answer) (left : List ℕ) → Feeds table bytes letter a left → ¬ (said a ≡ refused 14)
+
+-- They hold of everything that a call may ask.
+abbrev pub Met : Type 0
+Met = (A : Asked) → Proper A → (k : ℕ) (table : List ℕ) (made : Made A k table) → Theorems A k table made
 
 -- DEMAND 3, the whole of it, of what is asked of one plan.
 pub record Demand (A : Asked) : Type 0 where

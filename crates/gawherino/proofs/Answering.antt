@@ -13,16 +13,15 @@ use Rattle.bitset.specs.Sets.{one-if}
 use Rattle.bitset.proofs.Tests.{decided}
 use Rattle.semiautomata.specs.Semiautomaton.{Semiautomaton}
 use Rattle.streaming.specs.Calls.{Reply, refused, resolved, nothing, Result, checked}
-use Rattle.refusals.specs.Checks.{Check, firstOf}
+use Rattle.refusals.specs.Checks.{Check, firstOf, Numbered}
 use Rattle.streaming.specs.Streaming.{base, soleAt, resolve, settle, settled, unopened, openChecks, takeChecks, settledBy}
-use Rattle.refusals.proofs.First.{Numbered, first-le, first-both, numbered-both, numbered-up, passed-first}
+use Rattle.refusals.proofs.First.{first-le, first-both, numbered-both, numbered-up, passed-first}
 use Rattle.streaming.proofs.Calls.{Course, refuses as refuses-by, passes, course, among-numbered}
 use Rattle.streaming.proofs.Streaming.{at-sole}
-use Rattle.plan.specs.Asked.{Asked, refusalOf}
+use Rattle.plan.specs.Asked.{Asked, refusalOf, highest, Proper}
 use Rattle.plan.specs.Bytes.{asked, outcomeOfReading, reading}
 use Rattle.plan.specs.declared.Reading.{Reading}
 use Rattle.plan.specs.declared.Reading.the-variants as read
-use Rattle.plan.proofs.Asked.{highest, Proper}
 use Rattle.plan.proofs.Refusals.{well-formed-range, asked-proper}
 use Rattle.plan.proofs.Readings.{reading-refused, reading-counts}
 use Rattle.table.specs.Table.{statesOf, lookaheadOf, tableMeaning, unfit}

@@ -6,8 +6,7 @@ use mathlib.Core.List.{List}
 use native.Mathlib.Omega.{arith}
 use lib.ListN.{length, drop, length-take, List·getD-eq-default}
 use Rattle.semiautomata.specs.Semiautomaton.{Semiautomaton}
-use Rattle.plan.specs.Asked.{Asked}
-use Rattle.plan.proofs.Asked.{Proper}
+use Rattle.plan.specs.Asked.{Asked, Proper}
 use Rattle.lookahead.specs.declared.Evidence.{Evidence}
 use Rattle.lookahead.specs.Answers.{TrueOf}
 use Rattle.prepare.specs.declared.Prepared.{Prepared}

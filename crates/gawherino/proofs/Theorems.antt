@@ -5,9 +5,8 @@ use mathlib.Core.Path.{refl}
 use mathlib.Core.Logic.{inl, inr}
 use native.Mathlib.Omega.{arith}
 use Rattle.refusals.specs.Outcomes.{Outcome, refused, answered}
-use Rattle.plan.specs.Asked.{Asked, refusalOf}
+use Rattle.plan.specs.Asked.{Asked, refusalOf, Proper}
 use Rattle.plan.specs.Bytes.{asked}
-use Rattle.plan.proofs.Asked.{Proper}
 use Rattle.plan.proofs.Refusals.{asked-proper}
 use Rattle.prepare.specs.Preparing.{LooksAhead, asNumber, Draws}
 use Rattle.prepare.proofs.Answers.{small}

@@ -1,5 +1,5 @@
--- Outcomes in numbers, as C gets them (include/gawherino.h): one number, a value below 65,536 or 65,536 plus the refusal, and further values,
--- which go to the front of a lent slice.
+-- Outcomes in numbers, as C gets them (include/gawherino.h): one number, a value below 65,536 or 65,536 plus the refusal, and further
+-- values, which go to the front of a lent slice.
 -- Assumes nothing.
 use Prim.Native.Nat.{ℕ, _+_, _^_, _≤_, _<_}
 use mathlib.Core.Bool.{true}

@@ -16,7 +16,7 @@ use Rattle.predictor.specs.declared.Ended.{Ended}
 use Rattle.predictor.specs.Calls.{tableCheck, Opens, Feeds, Ends}
 use Rattle.gawherino.specs.Numbers.{ofReading, ofPrepared, ofChecked, ofWalked, ofJudged, ofAnswer, ofEnded, Passed, PassesOn}
 
--- CALLS ON A PLAN: without room, what is asked of it, or 9.
+-- CALLS ON A PLAN: without room, the first check that applies of what is asked, or 9.
 
 abbrev pub PassesReading : List ℕ → ℕ → List ℕ → List ℕ → Type 0
 PassesReading plan r old counts = PassesOn ofReading 3 (planChecks plan) (λ a. outcomeOfReading a ≡ reading plan) Unit r old counts

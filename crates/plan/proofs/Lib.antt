@@ -1,6 +1,5 @@
 pub mod Tests
 pub mod Plan
-pub mod Asked
 pub mod Entering
 pub mod Refusals
 pub mod Readings

@@ -11,18 +11,17 @@ use lib.ListN.{length}
 use borrow.Author.Tests.{lt-ltb, ltb-false, leb-true, eqb-true, eqb-false, not-false}
 use Rattle.bitset.proofs.Tests.{and-out, decided}
 use Rattle.semiautomata.specs.Semiautomaton.{Within}
-use Rattle.refusals.specs.Checks.{within, firstOf}
-use Rattle.refusals.proofs.First.{Numbered, first-le, first-behind, first-before}
+use Rattle.refusals.specs.Checks.{within, firstOf, Numbered}
+use Rattle.refusals.proofs.First.{first-le, first-behind, first-before}
 use Rattle.plan.specs.declared.Header.{Header}
 use Rattle.plan.specs.Plan.{countOff, startHigh, startOff, lineOff}
 use Rattle.semiautomata.specs.Sizes.{Sized}
-use Rattle.plan.specs.Asked.{refusalOf}
+use Rattle.plan.specs.Asked.{refusalOf, Proper}
 use Rattle.plan.specs.Bytes.{headerOf, lineWidth, parsed, meaning, placed, misplaced, headerChecks, partChecks, planChecks}
 use Rattle.plan.specs.Bytes.{asked, refusal, WellFormed}
 use Rattle.plan.specs.inner.Steps.{Sound}
 use Rattle.plan.proofs.Tests.{or-none}
 use Rattle.plan.proofs.Plan.{plan-within}
-use Rattle.plan.proofs.Asked.{Proper}
 
 -- none of a list applies: not the first, and none of the rest
 none-next : (t : Bool) (k rest : ℕ) → cond t (suc k) rest ≡ 0 → (t ≡ false) × (rest ≡ 0)

@@ -5,6 +5,7 @@ use mathlib.Core.Bool.{Bool, not, _&&_, _||_}
 use lib.Dec.{eqb, ltb, leb}
 use Rattle.bitset.specs.Sets.{any}
 use Rattle.semiautomata.specs.Semiautomaton.{Semiautomaton}
+use Rattle.semiautomata.specs.Sizes.{maxStates, maxLetters, maxLines}
 use Rattle.refusals.specs.Checks.{within}
 
 -- A line: from, letter (code), to.
@@ -39,7 +40,7 @@ semiautomaton P = record {
 
 -- 3: a count out of range: n is from 1 to 64, m from 1 to 32, p from 0 to n, e from 0 to 4,096
 abbrev pub countOff : ℕ → ℕ → ℕ → ℕ → Bool
-countOff n m p e = not (within 1 64 n) || (not (within 1 32 m) || (ltb n p || ltb 4096 e))
+countOff n m p e = not (within 1 maxStates n) || (not (within 1 maxLetters m) || (ltb n p || ltb maxLines e))
 
 -- two places of a list of c hold the same
 abbrev pub twice : ℕ → (ℕ → ℕ → Bool) → Bool

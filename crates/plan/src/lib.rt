@@ -9,6 +9,9 @@ ghost use Rattle.plan.specs.Plan.{countOff};
 ghost use Rattle.plan.specs.Bytes.{headerOf, parsedBy, misplaced, headerChecks, asked, outcomeOfReading, counts, reading};
 ghost use Rattle.plan.specs.Loading.{Blank, Loads};
 ghost use Rattle.plan.specs.inner.Steps.{Sound, StartsEntered, LinesEntered};
+use semiautomata::MAX_LETTERS;
+use semiautomata::MAX_LINES;
+use semiautomata::MAX_STATES;
 
 // A line has so many bytes.
 const LINE_WIDTH: usize = 3;
@@ -63,7 +66,12 @@ fn header_of(plan: &[u8]) -> Header
 fn count_off(n: u16, m: u16, p: u16, e: u16) -> bool
     ensures { λ r. ⌜ r ≡ countOff n m p e ⌝ }
 {
-    (n < 1) | (64 < n) | (m < 1) | (32 < m) | (n < p) | (4096 < e)
+    (n < 1)
+        | (n > MAX_STATES as u16)
+        | (m < 1)
+        | (m > MAX_LETTERS as u16)
+        | (n < p)
+        | (e > MAX_LINES as u16)
 }
 
 // Refusal 4.

@@ -34,7 +34,7 @@ use Rattle.walks.proofs.Words.{some-of, none-of, possible-last}
 use Rattle.records.specs.Bytes.{decode, tidy}
 use Rattle.predictor.specs.Replies.{isRefusal}
 use Rattle.predictor.specs.Calls.{written, onto}
-use Rattle.records.specs.inner.Taking.{takenInto, startedInto}
+use Rattle.records.specs.Taking.{takenInto, startedInto}
 use Rattle.predictor.specs.inner.Parts.{resolving, opening, judgeChecks, judged, lastAfter, fedInto, openedInto, Ready}
 use Rattle.predictor.proofs.Standing.{By, base-below, Standing}
 

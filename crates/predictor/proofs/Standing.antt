@@ -28,7 +28,7 @@ use Rattle.walks.specs.Walking.{Letters}
 use Rattle.walks.proofs.Words.{some-of, none-of}
 use Rattle.table.proofs.Fitness.{Fitting}
 use Rattle.records.specs.Bytes.{heldFrom, heldCount, decode, tidy}
-use Rattle.records.specs.inner.Taking.{regular}
+use Rattle.records.specs.Taking.{regular}
 use Rattle.predictor.specs.inner.Parts.{baseSet, standing}
 use Rattle.records.proofs.Bytes.{tidy-out}
 use Rattle.predictor.proofs.Letters.{reach-letters}

@@ -9,16 +9,17 @@ use borrow.Author.Tests.{not-false}
 use Rattle.bitset.proofs.Tests.{and-out}
 use Rattle.semiautomata.specs.Semiautomaton.{Semiautomaton}
 use Rattle.streaming.specs.Calls.{Result, refused, checked}
-use Rattle.refusals.specs.Checks.{Check, firstOf}
+use Rattle.refusals.specs.Checks.{Check, firstOf, Numbered}
 use Rattle.streaming.specs.Streaming.{Rec, unopened, openChecks, opened, feedChecks, feed, Undecided, UndecidedBy}
 use Rattle.streaming.proofs.Calls.{lacks, passed-done, behind}
-use Rattle.refusals.proofs.First.{Numbered, Passed, first-passed, passed-first}
+use Rattle.refusals.proofs.First.{Passed, first-passed, passed-first}
 use Rattle.streaming.proofs.Streaming.{opening-14, feeding-14}
 use Rattle.table.specs.Table.{lookaheadOf, tableMeaning}
 use Rattle.table.proofs.Fitness.{fitting}
 use Rattle.records.specs.Bytes.{decode, tidy}
 use Rattle.predictor.specs.Calls.{openingChecks, letterChecks, onto, openedOn, fedOn}
 use Rattle.predictor.specs.Theorems.{Theorems}
+use Rattle.predictor.proofs.Tables.{opened-on, fed-on}
 
 -- 14 of bytes, where what passes their checks passes the record's
 through : {U : Type 0} (cs ds : List Check) → lacks 14 cs ≡ true → Numbered 13 cs → (k : ℕ) (bytes : List ℕ) (r : Rec) (done : Result Rec)
@@ -61,6 +62,8 @@ module _ (table bytes : List ℕ) where
 
   pub theorems : Theorems table bytes
   theorems = record {
+    opening-is = opened-on table bytes;
+    feeding-is = λ fit room t letter. fed-on table bytes fit room letter t;
     opening-14 = λ a left (e, _). (λ d. opening .0 (sym e ∙ d), λ u. e ∙ opening .1 u);
     feeding-14 = λ letter a left (e, _). (λ d. feeding letter .0 (sym e ∙ d), λ u. e ∙ feeding letter .1 u);
   }

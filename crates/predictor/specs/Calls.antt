@@ -1,5 +1,5 @@
 -- Opening, a letter fed and ending over a table and record bytes: their refusals in order, then the rules of
--- crates/semiautomata/specs/Streaming on what the bytes hold.
+-- crates/streaming/specs/Streaming on what the bytes hold.
 -- Assumes nothing.
 use Prim.Native.Nat.{ℕ, _+_}
 use mathlib.Core.Bool.{not, _&&_, _||_}

@@ -12,9 +12,8 @@ use Rattle.semiautomata.specs.Predictability.{Lookahead}
 use Rattle.semiautomata.specs.Successors.{successors}
 use Rattle.semiautomata.proofs.Bound.{lookahead-bound}
 use Rattle.semiautomata.specs.Sizes.{Sized}
-use Rattle.plan.specs.Asked.{Asked, refusalOf, Passes}
+use Rattle.plan.specs.Asked.{Asked, refusalOf, Passes, Proper}
 use Rattle.plan.specs.Loading.{Holds}
-use Rattle.plan.proofs.Asked.{Proper}
 use Rattle.table.specs.Table.{laidOut}
 use Rattle.table.proofs.Form.{Reads, form-reads}
 use Rattle.prepare.specs.declared.Prepared.{Prepared}

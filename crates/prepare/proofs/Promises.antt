@@ -10,8 +10,7 @@ use Rattle.semiautomata.specs.Semiautomaton.{Semiautomaton}
 use Rattle.semiautomata.specs.Predictability.{Unpredictable}
 use Rattle.refusals.specs.Outcomes.{refused}
 use Rattle.semiautomata.proofs.Decide.{witness-unpredictable}
-use Rattle.plan.specs.Asked.{Asked, refusalOf}
-use Rattle.plan.proofs.Asked.{Proper}
+use Rattle.plan.specs.Asked.{Asked, refusalOf, Proper}
 use Rattle.lookahead.specs.declared.Evidence.{Evidence}
 use Rattle.prepare.specs.declared.Prepared.the-variants as prepared
 use Rattle.prepare.specs.Preparing.{refusalWith, countRefusal, prepareRefusal, Shown, LooksAhead, Prepares, CountsTo}

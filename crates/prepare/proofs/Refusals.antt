@@ -10,8 +10,7 @@ use lib.Dec.{eqb}
 use borrow.Author.Tests.{eqb-true, eqb-false, lt-ltb, le-ltb}
 use Rattle.bitset.proofs.Tests.{decided}
 use Rattle.refusals.proofs.First.{first-behind, first-before}
-use Rattle.plan.specs.Asked.{Asked, refusalOf, Passes}
-use Rattle.plan.proofs.Asked.{highest, Proper}
+use Rattle.plan.specs.Asked.{Asked, refusalOf, Passes, highest, Proper}
 use Rattle.table.specs.Table.{setsFrom}
 use Rattle.prepare.specs.Preparing.{short, refusalWith, countRefusal, prepareRefusal}
 

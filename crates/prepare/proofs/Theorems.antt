@@ -12,10 +12,9 @@ use Rattle.semiautomata.proofs.Bound.{lookahead-bound, lookahead-bound-one}
 use Rattle.semiautomata.specs.Semiautomaton.{Semiautomaton}
 use Rattle.semiautomata.specs.Predictability.{Lookahead}
 use Rattle.refusals.specs.Outcomes.{answered}
-use Rattle.plan.specs.Asked.{Asked, Passes}
+use Rattle.plan.specs.Asked.{Asked, Passes, Proper}
 use Rattle.table.specs.Table.{setsFrom}
 use Rattle.table.proofs.Form.{Reads}
-use Rattle.plan.proofs.Asked.{Proper}
 use Rattle.lookahead.specs.declared.Evidence.{Evidence}
 use Rattle.prepare.specs.declared.Prepared.the-variants as prepared
 use Rattle.claim.specs.declared.Checked.{Checked}
@@ -23,7 +22,7 @@ use Rattle.claim.specs.declared.Checked.the-variants.{Yes, No, Refused}
 use Rattle.prepare.specs.Preparing.{Shown, Prepares, CountsTo}
 use Rattle.prepare.specs.declared.Prepared.{Prepared}
 use Rattle.claim.specs.Checking.{Checks}
-use Rattle.prepare.specs.Theorems.{Answers, Right, Theorems}
+use Rattle.prepare.specs.Theorems.{Answers, Right, Theorems, Met}
 use Rattle.prepare.proofs.Answers.{sized-reads}
 use Rattle.prepare.proofs.Promises.{shown-never, count-refused-so, count-never-so, prepare-refused-so, prepare-never-so}
 use Rattle.prepare.proofs.Refusals.{clear-passes, count-clear, prepare-clear}
@@ -94,3 +93,6 @@ module _ (A : Asked) (P : Proper A) where
     bound-one-letter = λ one k old letters a. lookahead-bound-one (A .means) (P .sized (ready a .0) .within) one k (ready a .1);
     evidence-passes = passes;
   }
+
+pub met : Met
+met = theorems

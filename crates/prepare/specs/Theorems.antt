@@ -9,7 +9,7 @@ use lib.ListN.{length}
 use Rattle.semiautomata.specs.Semiautomaton.{Semiautomaton}
 use Rattle.semiautomata.specs.Predictability as predictability
 use Rattle.refusals.specs.Outcomes.{refused, answered}
-use Rattle.plan.specs.Asked.{Asked, Passes}
+use Rattle.plan.specs.Asked.{Asked, Passes, Proper}
 use Rattle.table.specs.Table.{setsFrom, lookaheadOf, tableMeaning, unfit}
 use Rattle.lookahead.specs.declared.Evidence.{Evidence}
 use Rattle.prepare.specs.declared.Prepared.{Prepared}
@@ -36,7 +36,7 @@ pub record Theorems (A : Asked) : Type 0 where
   -- the table that preparing leaves is fit, means what was asked and has its look-ahead
   pub table-reads : (k : ℕ) (old table old′ letters : List ℕ) → Prepares A (Ready k) old table old′ letters
       → (unfit table ≡ false) × (tableMeaning table ≡ A .means) × (lookaheadOf table ≡ k)
-  -- where no check applies, lent buffers being long enough, the plan is refused as unpredictable exactly when no k exists; otherwise k is answered
+  -- where no check applies and lent buffers are long enough, it is refused as unpredictable exactly when no k exists; else k is answered
   pub counted-right : Passes A → (a : Prepared) (old letters : List ℕ) → A .means .n * A .means .n ≤ length old
       → CountsTo A a old letters → Right (A .means) a
   pub prepared-right : Passes A → (a : Prepared) (old table old′ letters : List ℕ) → setsFrom + A .means .n * A .means .m ≤ length old
@@ -50,3 +50,7 @@ pub record Theorems (A : Asked) : Type 0 where
   -- the evidence that is answered passes the check
   pub evidence-passes : (e : Evidence) (old letters : List ℕ) → Answers A (Unpredictable e) old letters → (r : Checked)
       → Checks A e letters r → r ≡ Yes
+
+-- They hold of everything that a call may ask, so of all plan bytes (plan/specs/Theorems, `proper`).
+abbrev pub Met : Type 0
+Met = (A : Asked) → Proper A → Theorems A

@@ -12,7 +12,7 @@ use Rattle.streaming.specs.Streaming.{latest}
 use Rattle.streaming.proofs.Streaming.{length-snoc}
 use Rattle.endian.specs.Numbers.{bytesOf}
 use Rattle.records.specs.Bytes.{heldFrom, heldCount, decode, encode}
-use Rattle.records.specs.inner.Taking.{pushed, takenInto, startedInto}
+use Rattle.records.specs.Taking.{pushed, takenInto, startedInto}
 use Rattle.records.proofs.Bytes.{Tidy}
 
 -- MOVING UP: the list when i letters have moved

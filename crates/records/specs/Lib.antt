@@ -1,2 +1,2 @@
 pub mod Bytes
-pub mod inner
+pub mod Taking

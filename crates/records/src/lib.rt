@@ -10,7 +10,7 @@ ghost use Rattle.bitset.specs.Sets.{any};
 ghost use Rattle.streaming.specs.PlainWalk.{limit};
 ghost use Rattle.endian.specs.Numbers.{numberAt, bytesOf};
 ghost use Rattle.records.specs.Bytes.{heldCount, decode, tidy};
-ghost use Rattle.records.specs.inner.Taking.{regular, pushed, takenInto, startedInto};
+ghost use Rattle.records.specs.Taking.{regular, pushed, takenInto, startedInto};
 
 // So many letters are taken at the most.
 pub const LIMIT: usize = 1000000;

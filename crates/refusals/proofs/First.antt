@@ -1,22 +1,14 @@
 -- Laws of the first check of a list that applies.
 -- Assumes nothing.
 use Prim.Native.Nat.{ℕ, _≤_}
-use mathlib.Core.Bool.{Bool, true, false, cond, _&&_, and-eq-true-iff}
+use mathlib.Core.Bool.{Bool, true, false, cond, and-eq-true-iff}
 use mathlib.Core.Path.{_≡_, refl}
 use mathlib.Core.Logic.{_↔_}
 use mathlib.Core.List.{List, [], _∷_, _++_}
 use native.Mathlib.Omega.{arith}
 use lib.Dec.{leb}
 use borrow.Author.Tests.{leb-true, le-leb}
-use Rattle.refusals.specs.Checks.{Check, firstOf, within}
-
--- the numbers of a list are from 1 to b; of a list that is written down this computes
-abbrev pub numbered : ℕ → List Check → Bool
-numbered b [] = true
-numbered b (c ∷ cs) = within 1 b (c .number) && numbered b cs
-
-abbrev pub Numbered : ℕ → List Check → Type 0
-Numbered b cs = numbered b cs ≡ true
+use Rattle.refusals.specs.Checks.{Check, firstOf, within, Numbered}
 
 -- no check applies
 abbrev pub Passed : List Check → Type 0

@@ -2,7 +2,8 @@
 -- number is a name.
 -- Assumes nothing.
 use Prim.Native.Nat.{ℕ}
-use mathlib.Core.Bool.{Bool, cond, _&&_}
+use mathlib.Core.Bool.{Bool, true, cond, _&&_}
+use mathlib.Core.Path.{_≡_}
 use mathlib.Core.List.{List, [], _∷_}
 use lib.Dec.{leb}
 
@@ -19,3 +20,11 @@ firstOf (c ∷ cs) = cond (c .applies) (c .number) (firstOf cs)
 -- x is a number from a to b
 abbrev pub within : ℕ → ℕ → ℕ → Bool
 within a b x = leb a x && leb x b
+
+-- The numbers of a list are from 1 to b; of a list that is written down this computes.
+abbrev pub numbered : ℕ → List Check → Bool
+numbered b [] = true
+numbered b (c ∷ cs) = within 1 b (c .number) && numbered b cs
+
+abbrev pub Numbered : ℕ → List Check → Type 0
+Numbered b cs = numbered b cs ≡ true

@@ -4,7 +4,7 @@ use Prim.Native.Nat.{ℕ, zero, suc, _*_}
 use mathlib.Core.Bool.{Bool, true, not, _&&_}
 use mathlib.Core.Option.{Option, some, none}
 use mathlib.Core.Path.{_≡_, refl}
-use mathlib.Core.List.{List, [], _∷_}
+use mathlib.Core.List.{List, [], _∷_, map}
 use native.Mathlib.Omega.{arith}
 use lib.Dec.{eqb}
 use borrow.Author.Tests.{eqb-true, not-true}
@@ -13,10 +13,11 @@ use Rattle.semiautomata.specs.Semiautomaton.{Semiautomaton, Within}
 use Rattle.semiautomata.specs.Levels.{live, clashIn, clash}
 use Rattle.semiautomata.proofs.Levels.{with-and}
 use Rattle.semiautomata.proofs.Decide.{clash-out, clash-in, some-shorter, lookahead-first, some-witness, witness-unpredictable}
+use Rattle.semiautomata.specs.Lists.{range}
 use Rattle.plan.specs.Asked.{refusalOf}
-use Rattle.plan.specs.Bytes.{meaning, planChecks, refusal, WellFormed}
+use Rattle.plan.specs.Bytes.{parsed, meaning, planChecks, refusal, WellFormed}
 use Rattle.plan.proofs.Refusals.{well-formed-within}
-use Rattle.samples.specs.Plans.{Sample, bytes, samples, Ahead, Holds}
+use Rattle.samples.specs.Plans.{Sample, bytes, A, B, C, D, E, F, G, H, C′, samples, Ahead, ReadBack, Holds, All, Theorems}
 
 -- the test of a look-ahead: no clash at k, one at k - 1; or one at n × n
 abbrev pub ahead : Semiautomaton → Option ℕ → Bool
@@ -38,22 +39,59 @@ abbrev all : List Sample → Bool
 all [] = true
 all (s ∷ ss) = passes s && all ss
 
-holds : (s : Sample) → passes s ≡ true → Holds s
-holds s = with-and (eqb (refusal (bytes s)) 0) _ λ a b.
+holds : (s : Sample) → ReadBack (s .plan) (parsed (bytes s)) → passes s ≡ true → Holds s
+holds s r = with-and (eqb (refusal (bytes s)) 0) _ λ a b.
     let w : WellFormed (bytes s) = eqb-true (refusal (bytes s)) 0 a in
-    record { well-formed = w; ahead = ahead-so (meaning (bytes s)) (well-formed-within (bytes s) w) (s .lookahead) b }
+    record { read-back = r; well-formed = w; ahead = ahead-so (meaning (bytes s)) (well-formed-within (bytes s) w) (s .lookahead) b }
 
-abbrev pub All : List Sample → Type 0
-All [] = Unit {0}
-All (s ∷ ss) = Holds s × All ss
+abbrev AllRead : List Sample → Type 0
+AllRead [] = Unit {0}
+AllRead (s ∷ ss) = ReadBack (s .plan) (parsed (bytes s)) × AllRead ss
 
-all-hold : (ss : List Sample) → all ss ≡ true → All ss
-all-hold [] e = tt
-all-hold (s ∷ ss) e = with-and (passes s) _ (λ a b. (holds s a, all-hold ss b)) e
+all-hold : (ss : List Sample) → AllRead ss → all ss ≡ true → All ss
+all-hold [] r e = tt
+all-hold (s ∷ ss) (r, rs) e = with-and (passes s) _ (λ a b. (holds s r a, all-hold ss rs b)) e
 
 samples-pass : all samples ≡ true
 unfolding refusalOf planChecks any clashIn clash live
 samples-pass = refl
 
+-- as it is listed, by computing
+abbrev AsListed : Sample → Type 0
+AsListed s =
+    let plan = parsed (bytes s) in
+    (plan .n ≡ s .plan .n) × (plan .m ≡ s .plan .m) × (map (plan .start) (range 0 (plan .p)) ≡ s .plan .starts)
+    × (map (plan .line) (range 0 (plan .e)) ≡ s .plan .lines)
+
+read-back : (s : Sample) → AsListed s → ReadBack (s .plan) (parsed (bytes s))
+read-back s (n, m, starts, lines) = record { n = n; m = m; starts = starts; lines = lines }
+
+samples-read : AllRead samples
+samples-read = (
+  read-back A (refl, refl, refl, refl),
+  (
+    read-back B (refl, refl, refl, refl),
+    (
+      read-back C (refl, refl, refl, refl),
+      (
+        read-back D (refl, refl, refl, refl),
+        (
+          read-back E (refl, refl, refl, refl),
+          (
+            read-back F (refl, refl, refl, refl),
+            (
+              read-back G (refl, refl, refl, refl),
+              (read-back H (refl, refl, refl, refl), (read-back C′ (refl, refl, refl, refl), tt)),
+            ),
+          ),
+        ),
+      ),
+    ),
+  ),
+)
+
 pub samples-hold : All samples
-samples-hold = all-hold samples samples-pass
+samples-hold = all-hold samples samples-read samples-pass
+
+pub theorems : Theorems
+theorems = record { hold = samples-hold; as-document = refl }

@@ -2,11 +2,13 @@
 -- Assumes nothing.
 use Prim.Native.Nat.{ℕ}
 use mathlib.Core.Option.{Option, some, none}
-use mathlib.Core.List.{List, [], _∷_}
+use mathlib.Core.Path.{_≡_}
+use mathlib.Core.List.{List, [], _∷_, map}
+use Rattle.semiautomata.specs.Lists.{range}
 use Rattle.semiautomata.specs.Semiautomaton.{Semiautomaton}
 use Rattle.semiautomata.specs.Predictability.{Lookahead, Unpredictable}
-use Rattle.plan.specs.Plan.{Line}
-use Rattle.plan.specs.Bytes.{meaning, WellFormed}
+use Rattle.plan.specs.Plan.{Line, Plan}
+use Rattle.plan.specs.Bytes.{parsed, meaning, WellFormed}
 use Rattle.plan.specs.Written.{Listed, line, planBytes}
 
 -- A plan, and its look-ahead, `none` where there is none (15).
@@ -52,12 +54,33 @@ C′ = sample 4 2 (2 ∷ 3 ∷ []) (line 2 0 1 ∷ line 3 0 1 ∷ line 1 1 0 ∷
 abbrev pub samples : List Sample
 samples = A ∷ B ∷ C ∷ D ∷ E ∷ F ∷ G ∷ H ∷ C′ ∷ []
 
+-- Plan A's bytes, as document 01 has them in hexadecimal.
+abbrev pub bytesOfA : List ℕ
+bytesOfA = 1 ∷ 0 ∷ 3 ∷ 0 ∷ 1 ∷ 0 ∷ 1 ∷ 0 ∷ 3 ∷ 0 ∷ 16 ∷ 0 ∷ 17 ∷ 0 ∷ 26 ∷ 0 ∷ 0 ∷ 0 ∷ 0 ∷ 1 ∷ 1 ∷ 0 ∷ 1 ∷ 1 ∷ 0 ∷ 2 ∷ []
+
 -- What the look-ahead of a sample says of the semiautomaton that it means.
 abbrev pub Ahead : Semiautomaton → Option ℕ → Type 0
 Ahead S (some k) = Lookahead S k
 Ahead S none = Unpredictable S
 
--- The plan is well formed, and has that look-ahead or none.
+-- The bytes hold the counts, the starts and the lines that are listed.
+pub record ReadBack (P : Listed) (plan : Plan) : Type 0 where
+  pub n : plan .n ≡ P .n
+  pub m : plan .m ≡ P .m
+  pub starts : map (plan .start) (range 0 (plan .p)) ≡ P .starts
+  pub lines : map (plan .line) (range 0 (plan .e)) ≡ P .lines
+
+-- The plan is read back as it is listed, is well formed, and has that look-ahead or none.
 pub record Holds (s : Sample) : Type 0 where
+  pub read-back : ReadBack (s .plan) (parsed (bytes s))
   pub well-formed : WellFormed (bytes s)
   pub ahead : Ahead (meaning (bytes s)) (s .lookahead)
+
+abbrev pub All : List Sample → Type 0
+All [] = Unit {0}
+All (s ∷ ss) = Holds s × All ss
+
+-- What is proved: of every sample, and that plan A is document 01's to the byte.
+pub record Theorems : Type 0 where
+  pub hold : All samples
+  pub as-document : bytes A ≡ bytesOfA

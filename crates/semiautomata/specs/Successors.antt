@@ -7,6 +7,7 @@ use lib.Dec.{ltb}
 use lib.ListN.{length, getD}
 use Rattle.bitset.specs.Numbers.{has}
 use Rattle.semiautomata.specs.Semiautomaton.{Semiautomaton}
+use Rattle.semiautomata.specs.Sizes.{maxStates, maxLetters}
 
 -- the place of the states that letter a leads to from state q
 abbrev pub place : ℕ → ℕ → ℕ → ℕ
@@ -22,7 +23,7 @@ successors n m starts sets = record {
 
 -- The sets are sets of states below n: at most 64 states and 32 letters, a set for each state and letter, and no bit n or higher.
 pub record Fit (n m : ℕ) (sets : List ℕ) : Type 0 where
-  pub states : n ≤ 64
-  pub letters : m ≤ 32
+  pub states : n ≤ maxStates
+  pub letters : m ≤ maxLetters
   pub room : n * m ≤ length sets
   pub below : (i : ℕ) → i < n * m → getD sets i 0 < 2 ^ n

@@ -4,29 +4,29 @@ ghost use Prim.Native.Nat.{_≤_};
 ghost use lib.ListN.{length};
 ghost use Rattle.slices.specs.Copying.{atFront};
 
-pub fn copy_8(out: &mut [u8], from: &[u8])
-    requires { ⌜ length (now from) ≤ length (now out) ⌝ }
-    ensures { λ _. ⌜ now (out .exit) ≡ atFront (now (from .entry)) (now (out .entry)) ⌝ }
+pub fn copy_8(out: &mut [u8], bytes: &[u8])
+    requires { ⌜ length (now bytes) ≤ length (now out) ⌝ }
+    ensures { λ _. ⌜ now (out .exit) ≡ atFront (now (bytes .entry)) (now (out .entry)) ⌝ }
 {
-    for i in 0..from.len() {
-        out[i] = from[i];
+    for i in 0..bytes.len() {
+        out[i] = bytes[i];
     }
 }
 
-pub fn copy_32(out: &mut [u32], from: &[u32])
-    requires { ⌜ length (now from) ≤ length (now out) ⌝ }
-    ensures { λ _. ⌜ now (out .exit) ≡ atFront (now (from .entry)) (now (out .entry)) ⌝ }
+pub fn copy_32(out: &mut [u32], numbers: &[u32])
+    requires { ⌜ length (now numbers) ≤ length (now out) ⌝ }
+    ensures { λ _. ⌜ now (out .exit) ≡ atFront (now (numbers .entry)) (now (out .entry)) ⌝ }
 {
-    for i in 0..from.len() {
-        out[i] = from[i];
+    for i in 0..numbers.len() {
+        out[i] = numbers[i];
     }
 }
 
-pub fn copy_64(out: &mut [u64], from: &[u64])
-    requires { ⌜ length (now from) ≤ length (now out) ⌝ }
-    ensures { λ _. ⌜ now (out .exit) ≡ atFront (now (from .entry)) (now (out .entry)) ⌝ }
+pub fn copy_64(out: &mut [u64], sets: &[u64])
+    requires { ⌜ length (now sets) ≤ length (now out) ⌝ }
+    ensures { λ _. ⌜ now (out .exit) ≡ atFront (now (sets .entry)) (now (out .entry)) ⌝ }
 {
-    for i in 0..from.len() {
-        out[i] = from[i];
+    for i in 0..sets.len() {
+        out[i] = sets[i];
     }
 }

@@ -14,7 +14,7 @@ use Rattle.bitset.proofs.Tests.{decided, or-right}
 use Rattle.steps.specs.declared.Stage.{Stage}
 use Rattle.steps.specs.declared.Stage.the-variants.{Plan, Letters, Over}
 use Rattle.lines.specs.Lines.{Appended}
-use Rattle.text.specs.Report.{totalOf, legsOf, noPlan, walkText, Reports}
+use Rattle.text.specs.Report.{totalOf, inputLetters, noPlan, walkText, Reports}
 use Rattle.text.specs.Calls.{walkOn, LeavesOf, unread, read, Told}
 use Rattle.steps.specs.Steps.{readFrom, readUpto, wanted, Runs, over, on}
 use Rattle.steps.specs.Steps.{Steps, reads-on, begins, begins-last, feeds, feeds-last, finishes, stays}
@@ -41,7 +41,7 @@ wanted-grows : (seen piece : List ℕ) → wanted seen ≤ wanted (seen ++ piece
 wanted-grows seen piece = omega (arith, byte-grows seen piece 14, byte-grows seen piece 15)
 
 -- no more is read than that, so no letter is among it
-no-letters : (input : List ℕ) → noPlan input ≡ false → length input ≤ wanted input → legsOf input ≡ []
+no-letters : (input : List ℕ) → noPlan input ≡ false → length input ≤ wanted input → inputLetters input ≡ []
 no-letters input e h = let w = whole input e in drop-of-length-le input {i = totalOf input} (omega (arith, w .total))
 
 is-plan : {input table bytes table′ left : List ℕ} → LeavesOf input table bytes false table′ left → noPlan input ≡ false

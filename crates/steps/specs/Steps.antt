@@ -32,8 +32,8 @@ pub record Readable (stage : Stage) : Type 0 where
 abbrev pub wanted : List ℕ → ℕ
 wanted input = max 16 (totalOf input)
 
--- One step: of a stage and the front of the buffer, how many bytes are to be written, the next stage, and the memory that is left. The stage
--- is the first one or one that a step answered, so that no more is read of a plan than it has bytes (`Runs`).
+-- One step: of a stage and the front of the buffer, how many bytes are to be written, the next stage, and the memory that is left. It
+-- begins at the first stage or at one that a step answered, so that no more is read of a plan than it has bytes (`Runs`).
 pub data Steps (input table bytes old : List ℕ) : Stage → ℕ → Stage → List ℕ → List ℕ → List ℕ → Type 0 where
   -- more of the plan is there, and not yet all: nothing is done but to read on
   reads-on : {from upto : ℕ} → from < length input → length input < wanted input

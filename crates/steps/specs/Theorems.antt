@@ -7,6 +7,7 @@ use lib.ListN.{replicate}
 use Rattle.samples.specs.Plans.{bytes, A, B}
 use Rattle.steps.specs.declared.Stage.the-variants.{Plan}
 use Rattle.text.specs.Report.{Reports}
+use Rattle.text.specs.Calls.{tableSize, recordSize}
 use Rattle.steps.specs.Steps.{Runs}
 
 -- Plan A and three letters, the sample of document 01, and its six lines.
@@ -16,7 +17,8 @@ sample = bytes A ++ (0 ∷ 0 ∷ 0 ∷ [])
 abbrev pub sampleText : List ℕ
 sampleText =
     -- `stakes 3 codes 1 starts 1 lines 3`
-    115 ∷ 116 ∷ 97 ∷ 107 ∷ 101 ∷ 115 ∷ 32 ∷ 51 ∷ 32 ∷ 99 ∷ 111 ∷ 100 ∷ 101 ∷ 115 ∷ 32 ∷ 49 ∷ 32 ∷ 115 ∷ 116 ∷ 97 ∷ 114 ∷ 116 ∷ 115 ∷ 32 ∷ 49 ∷ 32 ∷ 108 ∷ 105 ∷ 110 ∷ 101 ∷ 115 ∷ 32 ∷ 51 ∷ 10
+    115 ∷ 116 ∷ 97 ∷ 107 ∷ 101 ∷ 115 ∷ 32 ∷ 51 ∷ 32 ∷ 99 ∷ 111 ∷ 100 ∷ 101 ∷ 115 ∷ 32 ∷ 49
+    ∷ 32 ∷ 115 ∷ 116 ∷ 97 ∷ 114 ∷ 116 ∷ 115 ∷ 32 ∷ 49 ∷ 32 ∷ 108 ∷ 105 ∷ 110 ∷ 101 ∷ 115 ∷ 32 ∷ 51 ∷ 10
     -- `look-ahead 1`
     ∷ 108 ∷ 111 ∷ 111 ∷ 107 ∷ 45 ∷ 97 ∷ 104 ∷ 101 ∷ 97 ∷ 100 ∷ 32 ∷ 49 ∷ 10
     -- `at 0 stake 0`
@@ -44,10 +46,10 @@ refusedText =
 
 -- The program's table and record, as it begins.
 abbrev pub zeroTable : List ℕ
-zeroTable = replicate 2052 0
+zeroTable = replicate tableSize 0
 
 abbrev pub zeroRecord : List ℕ
-zeroRecord = replicate 2024 0
+zeroRecord = replicate recordSize 0
 
 pub record Theorems (input : List ℕ) : Type 0 where
   -- a run from the first stage on, with the input cut into reads in any way, prints the report of the input

@@ -9,8 +9,8 @@ use native.Mathlib.Omega.{arith}
 use lib.Dec.{eqb}
 use borrow.Author.Tests.{eqb-false, not-true}
 use Rattle.bitset.proofs.Tests.{decided, and-out}
-use Rattle.refusals.specs.Checks.{Check, firstOf}
-use Rattle.refusals.proofs.First.{Numbered, split, Passed, passed-first, first-passed}
+use Rattle.refusals.specs.Checks.{Check, firstOf, Numbered}
+use Rattle.refusals.proofs.First.{split, Passed, passed-first, first-passed}
 use Rattle.streaming.specs.Calls.{refused, Result, checked, replies, final}
 
 -- the number is that of one of the checks

@@ -1,4 +1,4 @@
--- Demand 3 of the plain walk, and so of all that replies as it does: the streaming rule on a predictable semiautomaton with an initial state.
+-- Demand 3 of the plain walk, and so of all that replies as it does: the streaming rule, where there is a look-ahead and an initial state.
 -- Assumes nothing.
 use Prim.Native.Nat.{ℕ, zero, suc, _+_, _-_, _≤_, _<_}
 use mathlib.Core.Bool.{Bool, true, false, not, cond}

@@ -23,7 +23,7 @@ use Rattle.prepare.proofs.Refusals.{square, prepare-clear}
 use Rattle.text.specs.declared.Printed.{Printed}
 use Rattle.text.specs.declared.Printed.the-variants.{Going, Ended, Short}
 use Rattle.lines.specs.Lines.{countsLine, lookaheadLine, refusedLine, Appended}
-use Rattle.text.specs.Report.{totalOf, planOf, legsOf, noPlan, countsOf, AfterLookahead, AfterCounts, never, predicts, Reports}
+use Rattle.text.specs.Report.{totalOf, planOf, inputLetters, noPlan, countsOf, AfterLookahead, AfterCounts, never, predicts, Reports}
 use Rattle.text.specs.Report.{no-plan, ill-formed, well-formed}
 use Rattle.text.specs.Calls.{tableSize, Laid, Lays, over, Leaves, read, ReportText, Roomy, Begins}
 use Rattle.lines.proofs.Lines.{appended-on}
@@ -122,10 +122,10 @@ module _ (input : List ℕ) (e : noPlan input ≡ false) (rest : List ℕ) where
   same-plan : planOf (input ++ rest) ≡ planOf input
   same-plan = rw same-total (take-append-le (totalOf input) input rest (whole input e .there))
 
-  same-letters : legsOf (input ++ rest) ≡ legsOf input ++ rest
+  same-letters : inputLetters (input ++ rest) ≡ inputLetters input ++ rest
   same-letters = rw same-total (drop-append-le (totalOf input) input rest (whole input e .there))
 
-  report-well : WellFormed (planOf input) → (text : List ℕ) → AfterCounts (meaning (planOf input)) (legsOf input ++ rest) text
+  report-well : WellFormed (planOf input) → (text : List ℕ) → AfterCounts (meaning (planOf input)) (inputLetters input ++ rest) text
       → Reports (input ++ rest) (countsOf (headerOf (planOf input)) ++ text)
   report-well w text a = rw (← same-plan) (well-formed still-plan (rw same-plan w) {text = text} (rw (same-plan, same-letters) a))
 
@@ -158,15 +158,15 @@ module _ (input : List ℕ) {old : List ℕ} where
     module _ {n m s l : ℕ} (d : outcomeOfReading (Counts n m s l) ≡ reading (planOf input)) {at : ℕ} {mid : List ℕ}
         (p : Appended old 0 (countsLine n m s l) at mid) where
       begun : {r : ℕ} {out : List ℕ} {later : List ℕ → List ℕ} → Laid (AfterCounts (meaning (planOf input))) mid at r out later
-          → Laid (ReportText input) old 0 r out (λ rest. later (legsOf input ++ rest))
+          → Laid (ReportText input) old 0 r out (λ rest. later (inputLetters input ++ rest))
       begun {later = later} a =
           let (w, is) = read-counts (planOf input) d in
           record {
             text = countsLine n m s l ++ a .text;
             put = appended-on p (a .put);
             follows = λ rest _.
-                rw (append-assoc (countsLine n m s l) (a .text) (later (legsOf input ++ rest)), is)
-                (report-well input e rest w (a .text ++ later (legsOf input ++ rest)) (a .follows (legsOf input ++ rest)));
+                rw (append-assoc (countsLine n m s l) (a .text) (later (inputLetters input ++ rest)), is)
+                (report-well input e rest w (a .text ++ later (inputLetters input ++ rest)) (a .follows (inputLetters input ++ rest)));
           }
 
       pub begun-well : (printed : Printed) (table bytes table′ left out : List ℕ) → Roomy table bytes old

@@ -1,6 +1,6 @@
--- What the calls promise: each prints a part of the report, and together, on the table and the record that they hand on, they print it whole.
+-- What the calls promise: each prints a part of the report; together, on the table and the record that they hand on, they print it whole.
 -- Assumes nothing.
-use Prim.Native.Nat.{ℕ, _*_, _≤_, _<_}
+use Prim.Native.Nat.{ℕ, _+_, _*_, _≤_, _<_}
 use mathlib.Core.Bool.{Bool, true, false, cond, _||_}
 use mathlib.Core.Logic.{_⊎_}
 use mathlib.Core.Path.{_≡_}
@@ -8,27 +8,28 @@ use mathlib.Core.List.{List, [], _∷_, _++_}
 use lib.Dec.{eqb, ltb}
 use lib.ListN.{length}
 use Rattle.semiautomata.specs.Semiautomaton.{Semiautomaton}
+use Rattle.semiautomata.specs.Sizes.{maxStates, maxLetters, maxLookahead}
 use Rattle.semiautomata.specs.Predictability.{Lookahead, Unpredictable}
 use Rattle.plan.specs.Bytes.{meaning, WellFormed}
-use Rattle.table.specs.Table.{laidOut}
-use Rattle.records.specs.Bytes.{decode}
+use Rattle.table.specs.Table.{setsFrom, laidOut}
+use Rattle.records.specs.Bytes.{heldFrom, decode}
 use Rattle.predictor.specs.Calls.{openedOn, fedOn, endRefusal, ended}
 use Rattle.predictor.specs.Replies.{isRefusal}
 use Rattle.text.specs.declared.Printed.{Printed}
 use Rattle.text.specs.declared.Printed.the-variants.{Going, Ended, Short}
 use Rattle.lines.specs.Lines.{refusedLine, Appended}
-use Rattle.text.specs.Report.{planOf, legsOf, noPlan, openText, walkText, Reports}
+use Rattle.text.specs.Report.{planOf, inputLetters, noPlan, openText, walkText, Reports}
 
 -- What is lent: sets for an ending, numbers for a table, bytes for a record; bytes that the first lines, the line of a letter and an open
 -- line take at the most.
 abbrev pub mostSets : ℕ
-mostSets = 2016
+mostSets = maxLookahead
 
 abbrev pub tableSize : ℕ
-tableSize = 2052
+tableSize = setsFrom + maxStates * maxLetters
 
 abbrev pub recordSize : ℕ
-recordSize = 2024
+recordSize = heldFrom + maxLookahead
 
 abbrev pub beginWidth : ℕ
 beginWidth = 106
@@ -134,7 +135,7 @@ Roomy table bytes old = (tableSize ≤ length table) × (recordSize ≤ length b
 abbrev pub Begins : List ℕ → List ℕ → List ℕ → Printed → List ℕ → List ℕ → List ℕ → List ℕ → Type 0
 Begins input table bytes (Going r) table′ left old out =
     Roomy table bytes old × LeavesOf input table bytes false table′ left
-    × Laid (ReportText input) old 0 r out (λ rest. walkOn table′ left (legsOf input ++ rest))
+    × Laid (ReportText input) old 0 r out (λ rest. walkOn table′ left (inputLetters input ++ rest))
 Begins input table bytes (Ended r) table′ left old out =
     Roomy table bytes old × LeavesOf input table bytes true table′ left × Laid (ReportText input) old 0 r out (λ rest. [])
 Begins input table bytes Short table′ left old out =

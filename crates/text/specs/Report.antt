@@ -24,8 +24,8 @@ totalOf input = headerOf input .total
 abbrev pub planOf : List ℕ → List ℕ
 planOf input = take (totalOf input) input
 
-abbrev pub legsOf : List ℕ → List ℕ
-legsOf input = drop (totalOf input) input
+abbrev pub inputLetters : List ℕ → List ℕ
+inputLetters input = drop (totalOf input) input
 
 -- Refusal 1 of the report: fewer than 16 bytes, a total below 16, or fewer bytes than the total.
 unfoldable pub noPlan : List ℕ → Bool
@@ -82,5 +82,5 @@ pub data Reports (input : List ℕ) : List ℕ → Type 0 where
   no-plan : noPlan input ≡ true → Reports input (refusedLine 1)
   ill-formed : noPlan input ≡ false → ¬ WellFormed (planOf input) → Reports input (refusedLine (refusal (planOf input)))
   well-formed : noPlan input ≡ false → WellFormed (planOf input) → {text : List ℕ}
-      → AfterCounts (meaning (planOf input)) (legsOf input) text
+      → AfterCounts (meaning (planOf input)) (inputLetters input) text
       → Reports input (countsOf (headerOf (planOf input)) ++ text)

@@ -1,5 +1,6 @@
-// Walks over successor sets, wherever these stand: in a table (lent as `&table[4..]`) or just loaded from a plan, and whatever the initial
-// states are. The letters of a word are tested (`letter_off`); one letter forth (`gather`) and back (`back`), a word (`reach_by`, `survivors_with`, `survivors_of`), every position of a word (`trace`).
+// Walks over successor sets, wherever these stand: in a table (lent as `&table[SETS_FROM..]`) or just loaded from a plan, and whatever the
+// initial states are. The letters of a word are tested (`letter_off`); one letter forth (`gather`) and back (`back`), a word (`reach_by`,
+// `survivors_with`, `survivors_of`), every position of a word (`trace`).
 ghost use mathlib.Core.Path.{_≡_};
 ghost use mathlib.Core.Bool.{_&&_};
 ghost use mathlib.Core.List.{[], _∷_, _++_};

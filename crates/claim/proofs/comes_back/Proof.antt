@@ -27,13 +27,19 @@ loop-holds : tie.Need-loop-holds Inv-loop μ-loop
 loop-holds c = let p = c .before .before .pre in (left-first _ _ (p .0 .states) (p .1), passed-first _ _)
 
 cast-member : tie.Need-cast-member Inv-loop μ-loop
-cast-member c = omega (arith, small c, c .before .before .before .before .pre .0 .states)
+cast-member c =
+    let start = c .before .before .before .before in
+    omega (arith, small c, start .pre .0 .states)
 
 shl-member : tie.Need-shl-member Inv-loop μ-loop
-shl-member c = omega (arith, small c, c .before .before .before .before .pre .0 .states)
+shl-member c =
+    let start = c .before .before .before .before in
+    omega (arith, small c, start .pre .0 .states)
 
 reach-by-requires : tie.Need-reach-by-requires Inv-loop μ-loop
-reach-by-requires c κs = let p = c .before .before .before .before .pre in (p .0, alone-lt (p .0) (small c), p .2)
+reach-by-requires c κs =
+    let at-start = c .before .before .before .before in
+    let p = at-start .pre in (p .0, alone-lt (p .0) (small c), p .2)
 
 returns : tie.Need-returns Inv-loop μ-loop
 returns c =
@@ -60,8 +66,9 @@ loop-again c =
 
 returns-2 : tie.Need-returns-2 Inv-loop μ-loop
 returns-2 c =
+    let start = c .before .before .before .before in
     let i = c .before .loop .inv in
-    led-no (c .before .before .before .before .pre .0) _ _ (i .0 .whole) (passed-all (i .0) (c .loop-test .left) (i .1))
+    led-no (start .pre .0) _ _ (i .0 .whole) (passed-all (i .0) (c .loop-test .left) (i .1))
 
 pub comes-back-spec : {M : Type 1} → statement M
 comes-back-spec =

@@ -32,7 +32,9 @@ returns c =
     )
 
 mul-if2 : tie.Need-mul-if2
-mul-if2 c = let f = c .before .before .before .before .before .before .before .before .pre .0 .states in omega (arith, mul-le-mul f f)
+mul-if2 c =
+    let at-start = c .before .before .before .before .before .before .before .before in
+    let f = at-start .pre .0 .states in omega (arith, mul-le-mul f f)
 
 returns-2 : tie.Need-returns-2
 returns-2 c =
@@ -69,10 +71,14 @@ both-lt c =
     (e .before .before .contains .ensures) (e .before .contains2 .ensures) (e .if1 .left)
 
 slice-aggregate-has-lasso : tie.Need-slice-aggregate-has-lasso
-slice-aggregate-has-lasso c = stem-long (c .before .before .before .before)
+slice-aggregate-has-lasso c =
+    let back-4 = c .before .before .before .before in
+    stem-long back-4
 
 part-has-lasso-end : tie.Need-part-has-lasso-end
-part-has-lasso-end c = there (c .before .before .before .before)
+part-has-lasso-end c =
+    let back-4 = c .before .before .before .before in
+    there back-4
 
 has-lasso-requires : tie.Need-has-lasso-requires
 has-lasso-requires c κs =
@@ -84,10 +90,14 @@ has-lasso-requires c κs =
     (s .pre .0, both-lt b .0, stem, cycle)
 
 slice-aggregate-has-lasso-2 : tie.Need-slice-aggregate-has-lasso-2
-slice-aggregate-has-lasso-2 c = stem-long (c .before .before .before .before .before .before .before)
+slice-aggregate-has-lasso-2 c =
+    let back-7 = c .before .before .before .before .before .before .before in
+    stem-long back-7
 
 part-has-lasso-end-2 : tie.Need-part-has-lasso-end-2
-part-has-lasso-end-2 c = there (c .before .before .before .before .before .before .before)
+part-has-lasso-end-2 c =
+    let back-7 = c .before .before .before .before .before .before .before in
+    there back-7
 
 has-lasso-requires-2 : tie.Need-has-lasso-requires-2
 has-lasso-requires-2 c κs =

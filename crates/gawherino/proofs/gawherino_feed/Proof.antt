@@ -11,8 +11,10 @@ returns : tie.Need-returns
 returns c = refuses (omega arith) (c .no-room-on-table .ensures) refl refl
 
 returns-2 : tie.Need-returns-2
-returns-2 c = answers (omega arith) (c .before .before .before .before .before .before .feed .result)
-    (c .before .before .before .before .before .before .feed .ensures) (c .before .before .pass-answer .ensures)
+returns-2 c =
+    let at-feed = c .before .before .before .before .before .before in
+    answers (omega arith) (at-feed .feed .result)
+    (at-feed .feed .ensures) (c .before .before .pass-answer .ensures)
 
 pub gawherino-feed-spec : {M : Type 1} → statement M
 gawherino-feed-spec =

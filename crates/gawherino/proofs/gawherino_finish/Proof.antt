@@ -8,26 +8,32 @@ use Rattle.gawherino.proofs.gawherino_finish.Statement.{statement}
 use Rattle.gawherino.proofs.gawherino_finish.Tie as tie
 
 cast-result : tie.Need-cast-result
-cast-result c = let (p, (l, _)) = rw (c .before .ended .given .1) at (c .before .before .before .before .before .finish .ensures) in
+cast-result c =
+    let at-finish = c .before .before .before .before .before in
+    let (p, (l, _)) = rw (c .before .ended .given .1) at (at-finish .finish .ensures) in
     omega (arith, few-ended _ _ _ p)
 
 returns : tie.Need-returns
-returns c = record {
-  answer = c .before .before .before .before .before .finish .result;
-  meets =
-      c .before .before .before .before .before .finish .ensures;
-  passed =
-      rw (c .before .ended .given .1) (record { answered = refl; written = refl });
-}
+returns c =
+    let at-finish = c .before .before .before .before .before in
+    record {
+      answer = at-finish .finish .result;
+      meets =
+          at-finish .finish .ensures;
+      passed =
+          rw (c .before .ended .given .1) (record { answered = refl; written = refl });
+    }
 
 returns-2 : tie.Need-returns-2
-returns-2 c = record {
-  answer = c .before .before .before .before .before .finish .result;
-  meets =
-      c .before .before .before .before .before .finish .ensures;
-  passed =
-      rw (c .before .ended2 .given .1) (record { answered = refl; written = refl });
-}
+returns-2 c =
+    let at-finish = c .before .before .before .before .before in
+    record {
+      answer = at-finish .finish .result;
+      meets =
+          at-finish .finish .ensures;
+      passed =
+          rw (c .before .ended2 .given .1) (record { answered = refl; written = refl });
+    }
 
 pub gawherino-finish-spec : {M : Type 1} → statement M
 gawherino-finish-spec =

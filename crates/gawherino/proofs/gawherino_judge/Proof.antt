@@ -12,12 +12,15 @@ returns : tie.Need-returns
 returns c = refuses (omega arith) (c .no-room-on-table .ensures) refl tt
 
 returns-2 : tie.Need-returns-2
-returns-2 c = answers (omega arith) (c .before .before .before .before .judge .result) (c .before .before .before .before .judge .ensures)
+returns-2 c =
+    let at-judge = c .before .before .before .before in
+    let start = at-judge .before .before .before .before .before in
+    answers (omega arith) (at-judge .judge .result) (at-judge .judge .ensures)
     (rw (c .before .before .judged .given .1)
     (record {
       answered = bit-of (c .before .before .judged .given .0 .0 .minimal);
       written =
-          stored-two (c .before .before .before .before .before .before .before .before .before .args .sets .now) _ _ (omega arith);
+          stored-two (start .args .sets .now) _ _ (omega arith);
     }))
 
 returns-3 : tie.Need-returns-3

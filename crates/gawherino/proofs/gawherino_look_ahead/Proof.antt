@@ -14,18 +14,21 @@ returns : tie.Need-returns
 returns c = refuses (omega arith) (c .no-room-on-plan .ensures) refl refl
 
 pass-prepared-requires : tie.Need-pass-prepared-requires
-pass-prepared-requires c κs = (
-  counts-fit (asked (c .before .before .before .before .before .before .before .before .before .args .plan .now))
-      (asked-proper (c .before .before .before .before .before .before .before .before .before .args .plan .now))
-      (c .before .before .before .count .result)
-      (c .before .before .before .before .before .before .before .before .before .args .letters .now) _
-      (c .before .before .before .count .ensures),
-  omega arith,
-)
+pass-prepared-requires c κs =
+    let start = c .before .before .before .before .before .before .before .before .before in (
+      counts-fit (asked (start .args .plan .now))
+          (asked-proper (start .args .plan .now))
+          (c .before .before .before .count .result)
+          (start .args .letters .now) _
+          (c .before .before .before .count .ensures),
+      omega arith,
+    )
 
 returns-2 : tie.Need-returns-2
-returns-2 c = answers (omega arith) (c .before .before .before .before .before .before .count .result)
-    (c .before .before .before .before .before .before .count .ensures) (c .before .before .pass-prepared .ensures)
+returns-2 c =
+    let at-count = c .before .before .before .before .before .before in
+    answers (omega arith) (at-count .count .result)
+    (at-count .count .ensures) (c .before .before .pass-prepared .ensures)
 
 pub gawherino-look-ahead-spec : {M : Type 1} → statement M
 gawherino-look-ahead-spec =

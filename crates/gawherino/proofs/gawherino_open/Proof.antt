@@ -11,8 +11,10 @@ returns : tie.Need-returns
 returns c = refuses (omega arith) (c .no-room-on-table .ensures) refl refl
 
 returns-2 : tie.Need-returns-2
-returns-2 c = answers (omega arith) (c .before .before .before .before .before .before .«open» .result)
-    (c .before .before .before .before .before .before .«open» .ensures) (c .before .before .pass-answer .ensures)
+returns-2 c =
+    let back-6 = c .before .before .before .before .before .before in
+    answers (omega arith) (back-6 .«open» .result)
+    (back-6 .«open» .ensures) (c .before .before .pass-answer .ensures)
 
 pub gawherino-open-spec : {M : Type 1} → statement M
 gawherino-open-spec =

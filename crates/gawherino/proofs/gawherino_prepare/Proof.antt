@@ -15,11 +15,18 @@ returns c = refuses (omega arith) (c .no-room-on-plan .ensures) refl (refl, refl
 
 pass-prepared-requires : tie.Need-pass-prepared-requires
 pass-prepared-requires c κs =
-    (prepares-fit (asked (c .before .before .before .before .before .before .before .before .before .before .before .before .before .args .plan .now)) (asked-proper (c .before .before .before .before .before .before .before .before .before .before .before .before .before .args .plan .now)) (c .before .before .before .before .before .prepare .result) (c .before .before .before .before .before .before .before .before .before .before .before .before .before .args .table .now) _ (c .before .before .before .before .before .before .before .before .before .before .before .before .before .args .letters .now) _ (c .before .before .before .before .before .prepare .ensures), omega arith)
+    let at-prepare-5 = c .before .before .before .before .before in
+    let start = at-prepare-5 .before .before .before .before .before .before .before .before in (
+      prepares-fit (asked (start .args .plan .now)) (asked-proper (start .args .plan .now)) (at-prepare-5 .prepare .result)
+          (start .args .table .now) _ (start .args .letters .now) _ (at-prepare-5 .prepare .ensures),
+      omega arith,
+    )
 
 returns-2 : tie.Need-returns-2
-returns-2 c = answers (omega arith) (c .before .before .before .before .before .before .before .before .prepare .result)
-    (c .before .before .before .before .before .before .before .before .prepare .ensures) (c .before .before .pass-prepared .ensures)
+returns-2 c =
+    let at-prepare = c .before .before .before .before .before .before .before .before in
+    answers (omega arith) (at-prepare .prepare .result)
+    (at-prepare .prepare .ensures) (c .before .before .pass-prepared .ensures)
 
 pub gawherino-prepare-spec : {M : Type 1} → statement M
 gawherino-prepare-spec =

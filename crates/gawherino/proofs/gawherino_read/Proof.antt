@@ -15,9 +15,12 @@ returns-2 c = answers (omega arith) (c .before .before .before .read .result) (c
     (rw (c .before .reading .given .1) (record { answered = refl; written = refl }))
 
 returns-3 : tie.Need-returns-3
-returns-3 c = answers (omega arith) (c .before .before .before .before .before .before .before .before .read .result)
-    (c .before .before .before .before .before .before .before .before .read .ensures)
-    (rw (c .before .before .before .before .before .before .reading2 .given .1)
+returns-3 c =
+    let at-reading2 = c .before .before .before .before .before .before in
+    let at-read = at-reading2 .before .before in
+    answers (omega arith) (at-read .read .result)
+    (at-read .read .ensures)
+    (rw (at-reading2 .reading2 .given .1)
     (record { answered = refl; written = c .before .before .copy-32 .ensures }))
 
 pub gawherino-read-spec : {M : Type 1} → statement M

@@ -12,18 +12,23 @@ returns : tie.Need-returns
 returns c = refuses (omega arith) (c .no-room-on-table .ensures) refl refl
 
 returns-2 : tie.Need-returns-2
-returns-2 c = answers (omega arith) (c .before .before .before .before .before .walk .result)
-    (c .before .before .before .before .before .walk .ensures)
+returns-2 c =
+    let at-walk = c .before .before .before .before .before in
+    let start = at-walk .before .before .before .before .before .before .before in
+    answers (omega arith) (at-walk .walk .result)
+    (at-walk .walk .ensures)
     (rw (c .before .walked .given .1)
     (record {
       answered = refl;
       written =
-          stored-one (c .before .before .before .before .before .before .before .before .before .before .before .before .args .length .now) _ (omega arith);
+          stored-one (start .args .length .now) _ (omega arith);
     }))
 
 returns-3 : tie.Need-returns-3
-returns-3 c = answers (omega arith) (c .before .before .before .before .before .walk .result)
-    (c .before .before .before .before .before .walk .ensures)
+returns-3 c =
+    let at-walk = c .before .before .before .before .before in
+    answers (omega arith) (at-walk .walk .result)
+    (at-walk .walk .ensures)
     (rw (c .before .walked2 .given .1) (record { answered = refl; written = refl }))
 
 pub gawherino-walk-spec : {M : Type 1} → statement M

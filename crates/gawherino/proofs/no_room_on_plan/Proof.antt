@@ -9,11 +9,15 @@ enum-told : tie.Need-enum-told
 enum-told c = search needs
 
 returns : tie.Need-returns
-returns c = no-room-refused (c .before .before .before .before .before .args .plan .now)
+returns c =
+    let start = c .before .before .before .before .before in
+    no-room-refused (start .args .plan .now)
     (rw (c .before .reading .given .1) at (c .before .before .before .read .ensures))
 
 returns-2 : tie.Need-returns-2
-returns-2 c = no-room-read (c .before .before .before .before .args .plan .now)
+returns-2 c =
+    let start = c .before .before .before .before in
+    no-room-read (start .args .plan .now)
     (rw (c .enum-told .given .1) at (c .before .before .read .ensures))
 
 pub no-room-on-plan-spec : {M : Type 1} → statement M

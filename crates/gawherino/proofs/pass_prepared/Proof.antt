@@ -7,13 +7,17 @@ use Rattle.gawherino.proofs.pass_prepared.Statement.{statement}
 use Rattle.gawherino.proofs.pass_prepared.Tie as tie
 
 cast-result : tie.Need-cast-result
-cast-result c = omega (arith, rw (c .before .prepared .given .1) at (c .before .before .before .before .pre .0))
+cast-result c =
+    let start = c .before .before .before .before in
+    omega (arith, rw (c .before .prepared .given .1) at (start .pre .0))
 
 returns-2 : tie.Need-returns-2
 returns-2 c = rw (c .before .prepared2 .given .1) (record { answered = refl; written = refl })
 
 returns-3 : tie.Need-returns-3
-returns-3 c = rw (c .before .before .before .before .before .before .prepared3 .given .1)
+returns-3 c =
+    let at-prepared3 = c .before .before .before .before .before .before in
+    rw (at-prepared3 .prepared3 .given .1)
     (record { answered = refl; written = c .before .before .copy-32 .ensures })
 
 pub pass-prepared-spec : {M : Type 1} → statement M

@@ -59,23 +59,31 @@ field-requires : tie.Need-field-requires
 field-requires c κs = room-left (one (c .before .before .before)) _ (room-2 (c .before .before .before))
 
 field-requires-2 : tie.Need-field-requires-2
-field-requires-2 c κs = room-on (c .before .before .before .before .field .ensures) (room-2 (from-1 (c .before .before .before .before)))
+field-requires-2 c κs =
+    let at-field = c .before .before .before .before in
+    room-on (at-field .field .ensures) (room-2 (from-1 at-field))
 
 field-requires-3 : tie.Need-field-requires-3
-field-requires-3 c κs = room-on (put-2 (c .before .before .before .before)) (room-3 (from-1 (from-2 (c .before .before .before .before))))
+field-requires-3 c κs =
+    let back-4 = c .before .before .before .before in
+    room-on (put-2 back-4) (room-3 (from-1 (from-2 back-4)))
 
 field-requires-4 : tie.Need-field-requires-4
 field-requires-4 c κs =
-    room-on (put-3 (c .before .before .before .before)) (room-4 (from-1 (from-2 (from-3 (c .before .before .before .before)))))
+    let back-4 = c .before .before .before .before in
+    room-on (put-3 back-4) (room-4 (from-1 (from-2 (from-3 back-4))))
 
 append-requires : tie.Need-append-requires
 unfolding countsLine
 append-requires c κs =
-    room-on (put-4 (c .before .before .before .before)) (from-1 (from-2 (from-3 (from-4 (c .before .before .before .before)))) .pre)
+    let back-4 = c .before .before .before .before in
+    room-on (put-4 back-4) (from-1 (from-2 (from-3 (from-4 back-4))) .pre)
 
 returns : tie.Need-returns
 unfolding countsLine
-returns c = appended-on (put-4 (c .before .before .before .before .before .before .before)) (c .before .before .append .ensures)
+returns c =
+    let back-7 = c .before .before .before .before .before .before .before in
+    appended-on (put-4 back-7) (c .before .before .append .ensures)
 
 pub counts-spec : {M : Type 1} → statement M
 counts-spec =

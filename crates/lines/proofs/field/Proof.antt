@@ -12,11 +12,15 @@ append-requires c κs = let s = c .before .before .before in room-left (s .args 
 
 number-requires : tie.Need-number-requires
 unfolding field
-number-requires c κs = room-on (c .before .before .before .append .ensures) (c .before .before .before .before .before .before .before .pre)
+number-requires c κs =
+    let start = c .before .before .before .before .before .before .before in
+    room-on (c .before .before .before .append .ensures) (start .pre)
 
 returns : tie.Need-returns
 unfolding field
-returns c = appended-on (c .before .before .before .before .before .before .append .ensures) (c .before .before .number .ensures)
+returns c =
+    let at-append = c .before .before .before .before .before .before in
+    appended-on (at-append .append .ensures) (c .before .before .number .ensures)
 
 pub field-spec : {M : Type 1} → statement M
 field-spec = tie.close (tie.spec append-requires number-requires (λ c. search needs) returns)

@@ -8,25 +8,39 @@ enum-told : tie.Need-enum-told
 enum-told c = search needs
 
 append-requires : tie.Need-append-requires
-append-requires c κs = rw (c .before .before .enum-told .given .1) at (c .before .before .before .before .before .pre)
+append-requires c κs =
+    let start = c .before .before .before .before .before in
+    rw (c .before .before .enum-told .given .1) at (start .pre)
 
 append-requires-2 : tie.Need-append-requires-2
-append-requires-2 c κs = rw (c .before .before .enum-told2 .given .1) at (c .before .before .before .before .before .pre)
+append-requires-2 c κs =
+    let start = c .before .before .before .before .before in
+    rw (c .before .before .enum-told2 .given .1) at (start .pre)
 
 append-requires-3 : tie.Need-append-requires-3
-append-requires-3 c κs = rw (c .before .before .enum-told3 .given .1) at (c .before .before .before .before .before .pre)
+append-requires-3 c κs =
+    let start = c .before .before .before .before .before in
+    rw (c .before .before .enum-told3 .given .1) at (start .pre)
 
 returns : tie.Need-returns
-returns c = rw (c .before .before .before .before .before .enum-told .given .1) (c .before .before .append .ensures)
+returns c =
+    let at-enum-told = c .before .before .before .before .before in
+    rw (at-enum-told .enum-told .given .1) (c .before .before .append .ensures)
 
 returns-2 : tie.Need-returns-2
-returns-2 c = rw (c .before .before .before .before .before .enum-told2 .given .1) (c .before .before .append2 .ensures)
+returns-2 c =
+    let at-enum-told2 = c .before .before .before .before .before in
+    rw (at-enum-told2 .enum-told2 .given .1) (c .before .before .append2 .ensures)
 
 returns-3 : tie.Need-returns-3
-returns-3 c = rw (c .before .before .before .before .before .enum-told3 .given .1) (c .before .before .append3 .ensures)
+returns-3 c =
+    let at-enum-told3 = c .before .before .before .before .before in
+    rw (at-enum-told3 .enum-told3 .given .1) (c .before .before .append3 .ensures)
 
 returns-4 : tie.Need-returns-4
-returns-4 c = rw (c .before .before .before .before .before .enum-told4 .given .1) (c .before .before .append4 .ensures)
+returns-4 c =
+    let at-enum-told4 = c .before .before .before .before .before in
+    rw (at-enum-told4 .enum-told4 .given .1) (c .before .before .append4 .ensures)
 
 pub group-spec : {M : Type 1} → statement M
 group-spec =

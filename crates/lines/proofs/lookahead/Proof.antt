@@ -13,11 +13,15 @@ field-requires c κs = let s = c .before .before .before in room-left (field loo
 append-requires : tie.Need-append-requires
 unfolding lookaheadLine
 append-requires c κs =
-    room-on (c .before .before .before .before .field .ensures) (c .before .before .before .before .before .before .before .before .pre)
+    let at-field-4 = c .before .before .before .before in
+    let start = at-field-4 .before .before .before .before in
+    room-on (at-field-4 .field .ensures) (start .pre)
 
 returns : tie.Need-returns
 unfolding lookaheadLine
-returns c = appended-on (c .before .before .before .before .before .before .before .field .ensures) (c .before .before .append .ensures)
+returns c =
+    let at-field = c .before .before .before .before .before .before .before in
+    appended-on (at-field .field .ensures) (c .before .before .append .ensures)
 
 pub lookahead-spec : {M : Type 1} → statement M
 lookahead-spec =

@@ -9,12 +9,16 @@ use Rattle.lines.proofs.member.Tie as tie
 
 field-requires : tie.Need-field-requires
 field-requires c κs =
+    let start = c .before .before .before .before .before in
     rw (sym (c .before .before .before .contains .ensures) ∙ c .before .before .if1 .taken) at
-    (c .before .before .before .before .before .pre)
+    (start .pre)
 
 returns : tie.Need-returns
-returns c = rw (sym (c .before .before .before .before .before .before .contains .ensures)
-    ∙ c .before .before .before .before .before .if1 .taken) (c .before .before .field .ensures)
+returns c =
+    let at-if1 = c .before .before .before .before .before in
+    let at-contains = at-if1 .before in
+    rw (sym (at-contains .contains .ensures)
+    ∙ at-if1 .if1 .taken) (c .before .before .field .ensures)
 
 returns-2 : tie.Need-returns-2
 returns-2 c = let s = c .before .before .before in

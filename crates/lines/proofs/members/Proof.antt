@@ -22,17 +22,20 @@ loop-holds c = let s = c .before in (omega arith, appended-none (s .args .at) (o
 
 member-requires : tie.Need-member-requires Inv-loop μ-loop
 unfolding listed
-member-requires c κs = let i = c .before .before .loop in
-    room-on (i .inv .1) (room-listed 64 (has (c .before .before .before .before .args .set)) (c .before .before .before .before .pre)
+member-requires c κs =
+    let start = c .before .before .before .before in
+    let i = c .before .before .loop in
+    room-on (i .inv .1) (room-listed 64 (has (start .args .set)) (start .pre)
     (i .s) (omega arith))
 
 loop-again : tie.Need-loop-again Inv-loop μ-loop
 unfolding listed
-loop-again c = (
-  omega arith,
-  rw (add-one, listed)
-      (appended-on (c .before .before .before .before .before .loop .inv .1) (c .before .before .member .ensures)),
-)
+loop-again c =
+    let at-loop = c .before .before .before .before .before in (
+      omega arith,
+      rw (add-one, listed)
+          (appended-on (at-loop .loop .inv .1) (c .before .before .member .ensures)),
+    )
 
 same-length : tie.Need-same-length Inv-loop μ-loop
 same-length c = appended-long (c .before .loop .inv .1)

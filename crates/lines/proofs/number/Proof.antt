@@ -12,10 +12,14 @@ written : (c : tie.After-decimal) → take (c .decimal .result) (c .decimal .las
 written c = c .decimal .ensures .1 .1 ∙ written-digits _ _ (c .decimal .ensures .1 .0)
 
 append-requires : tie.Need-append-requires
-append-requires c κs = rw (written (c .before .before)) (c .before .before .before .before .before .pre)
+append-requires c κs =
+    let start = c .before .before .before .before .before in
+    rw (written (c .before .before)) (start .pre)
 
 returns : tie.Need-returns
-returns c = rw (written (c .before .before .before .before .before)) at (c .before .before .append .ensures)
+returns c =
+    let back-5 = c .before .before .before .before .before in
+    rw (written back-5) at (c .before .before .append .ensures)
 
 pub number-spec : {M : Type 1} → statement M
 number-spec =

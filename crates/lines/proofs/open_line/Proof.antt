@@ -44,7 +44,9 @@ field-requires : tie.Need-field-requires
 field-requires c κs = let s = c .before .before .before in room-left (field openWord (s .args .position)) stakesAre (room-2 s)
 
 append-requires : tie.Need-append-requires
-append-requires c κs = room-on (c .before .before .before .before .field .ensures) (room-2 (from-1 (c .before .before .before .before)))
+append-requires c κs =
+    let at-field = c .before .before .before .before in
+    room-on (at-field .field .ensures) (room-2 (from-1 at-field))
 
 members-requires : tie.Need-members-requires
 members-requires c κs = room-on (put-2 (c .before .before .before)) (room-3 (from-1 (from-2 (c .before .before .before))))
@@ -52,11 +54,14 @@ members-requires c κs = room-on (put-2 (c .before .before .before)) (room-3 (fr
 append-requires-2 : tie.Need-append-requires-2
 unfolding openLine
 append-requires-2 c κs =
-    room-on (put-3 (c .before .before .before .before)) (from-1 (from-2 (from-3 (c .before .before .before .before))) .pre)
+    let back-4 = c .before .before .before .before in
+    room-on (put-3 back-4) (from-1 (from-2 (from-3 back-4)) .pre)
 
 returns : tie.Need-returns
 unfolding openLine
-returns c = appended-on (put-3 (c .before .before .before .before .before .before .before)) (c .before .before .append2 .ensures)
+returns c =
+    let back-7 = c .before .before .before .before .before .before .before in
+    appended-on (put-3 back-7) (c .before .before .append2 .ensures)
 
 pub open-line-spec : {M : Type 1} → statement M
 open-line-spec =

@@ -16,7 +16,9 @@ both s = room-left (field refusedWord (s .args .number) ++ groupWord (groupOf (s
 put : (c : tie.After-group) → let s = c .before .before .before .before .before .before .before .before .before in
     Appended (s .args .out .now) (s .args .at) (field refusedWord (s .args .number) ++ groupWord (groupOf (s .args .number)))
     (c .group .result) (c .group .last .0)
-put c = appended-on (c .before .before .before .before .before .field .ensures) (rw (c .before .group-of .ensures) at (c .group .ensures))
+put c =
+    let at-field = c .before .before .before .before .before in
+    appended-on (at-field .field .ensures) (rw (c .before .group-of .ensures) at (c .group .ensures))
 
 field-requires : tie.Need-field-requires
 field-requires c κs = let s = c .before .before .before in
@@ -24,19 +26,25 @@ field-requires c κs = let s = c .before .before .before in
 
 group-requires : tie.Need-group-requires
 group-requires c κs =
+    let at-field-4 = c .before .before .before .before in
+    let back-8 = at-field-4 .before .before .before .before in
     rw (c .group-of .ensures)
-    (room-on (c .before .before .before .before .field .ensures)
-    (both (c .before .before .before .before .before .before .before .before)))
+    (room-on (at-field-4 .field .ensures)
+    (both back-8))
 
 append-requires : tie.Need-append-requires
 unfolding refusedLine
 append-requires c κs =
-    room-on (put (c .before .before .before .before))
-    (c .before .before .before .before .before .before .before .before .before .before .before .before .before .pre)
+    let back-4 = c .before .before .before .before in
+    let start = back-4 .before .before .before .before .before .before .before .before .before in
+    room-on (put back-4)
+    (start .pre)
 
 returns : tie.Need-returns
 unfolding refusedLine
-returns c = appended-on (put (c .before .before .before .before .before .before .before)) (c .before .before .append .ensures)
+returns c =
+    let back-7 = c .before .before .before .before .before .before .before in
+    appended-on (put back-7) (c .before .before .append .ensures)
 
 pub refused-spec : {M : Type 1} → statement M
 refused-spec =

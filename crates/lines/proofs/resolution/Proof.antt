@@ -17,20 +17,28 @@ field-requires c κs = let s = c .before .before .before in
 
 field-requires-2 : tie.Need-field-requires-2
 field-requires-2 c κs =
-    room-on (c .before .before .before .before .field .ensures) (both (c .before .before .before .before .before .before .before .before))
+    let at-field-4 = c .before .before .before .before in
+    let back-8 = at-field-4 .before .before .before .before in
+    room-on (at-field-4 .field .ensures) (both back-8)
 
 append-requires : tie.Need-append-requires
 unfolding resolutionLine
 append-requires c κs =
-    room-on (appended-on (c .before .before .before .before .before .before .before .before .before .field .ensures)
-    (c .before .before .before .before .field2 .ensures))
-    (c .before .before .before .before .before .before .before .before .before .before .before .before .before .pre)
+    let at-field2-4 = c .before .before .before .before in
+    let at-field-9 = at-field2-4 .before .before .before .before .before in
+    let start = at-field-9 .before .before .before .before in
+    room-on (appended-on (at-field-9 .field .ensures)
+    (at-field2-4 .field2 .ensures))
+    (start .pre)
 
 returns : tie.Need-returns
 unfolding resolutionLine
-returns c = appended-on
-    (appended-on (c .before .before .before .before .before .before .before .before .before .before .before .before .field .ensures)
-    (c .before .before .before .before .before .before .before .field2 .ensures)) (c .before .before .append .ensures)
+returns c =
+    let at-field2 = c .before .before .before .before .before .before .before in
+    let at-field = at-field2 .before .before .before .before .before in
+    appended-on
+    (appended-on (at-field .field .ensures)
+    (at-field2 .field2 .ensures)) (c .before .before .append .ensures)
 
 pub resolution-spec : {M : Type 1} → statement M
 resolution-spec =

@@ -45,10 +45,14 @@ cast-from : tie.Need-cast-from Inv-loop μ-loop
 cast-from c = let l = c .before .before .before in omega (arith, c .shared-slice-known .given (at l))
 
 cast-letter : tie.Need-cast-letter Inv-loop μ-loop
-cast-letter c = let l = c .before .before .before .before in omega (arith, c .shared-slice-known2 .given (at l + 1))
+cast-letter c =
+    let l = c .before .before .before .before in
+    omega (arith, c .shared-slice-known2 .given (at l + 1))
 
 cast-to : tie.Need-cast-to Inv-loop μ-loop
-cast-to c = let l = c .before .before .before .before .before in omega (arith, c .shared-slice-known3 .given (at l + 2))
+cast-to c =
+    let l = c .before .before .before .before .before in
+    omega (arith, c .shared-slice-known3 .given (at l + 2))
 
 loop-again : tie.Need-loop-again Inv-loop μ-loop
 loop-again c =

@@ -25,7 +25,9 @@ abbrev planOf : tie.Start Inv-loop μ-loop → Plan
 planOf s = parsedBy (s .args .h) (now (s .args .plan))
 
 loop-holds : tie.Need-loop-holds Inv-loop μ-loop
-loop-holds c = (search needs, starts-none (planOf (c .before .before .before .before)))
+loop-holds c =
+    let back-4 = c .before .before .before .before in
+    (search needs, starts-none (planOf back-4))
 
 cast-s-2 : tie.Need-cast-s-2 Inv-loop μ-loop
 cast-s-2 c = let l = c .before .before .before in omega (arith, c .shared-slice-known2 .given (start l .args .h .starts + l .loop .i))

@@ -29,9 +29,11 @@ keep-requires c κs =
     (e .before .before .before .pre .0, tidied, room)
 
 returns-2 : tie.Need-returns-2
-returns-2 c = let e = c .before .before .before .before .before .before in
+returns-2 c =
+    let at-last-after = c .before .before .before .before in
+    let e = at-last-after .before .before in
     c .before .before .keep .ensures
-    ∙ rw (c .before .before .before .before .last-after .ensures) (fed-taken _ _ _ _ (sym (e .before .is-refusal .ensures) ∙ e .if1 .left))
+    ∙ rw (at-last-after .last-after .ensures) (fed-taken _ _ _ _ (sym (e .before .is-refusal .ensures) ∙ e .if1 .left))
 
 pub apply-spec : {M : Type 1} → statement M
 apply-spec =

@@ -144,6 +144,7 @@ resolution-requires c κs = let e = from-3 (from-4 (from-held (c .before .before
 
 returns-6 : tie.Need-returns-6
 returns-6 c =
+    let at-base-of = c .before .before .before .before in
     let h = from-held (c .before .before .before) in
     let g = h .before .before .before in
     let f = g .before in
@@ -152,7 +153,7 @@ returns-6 c =
     let fed = e .before .fed-of .ensures in
     let s = start d in
     judged-resolved (stands d) (by s) _ (room e) (below f) (next g) (h .before .if4 .left) (omega (arith, h .if5 .left, fed))
-    _ (from-is (by s) _ (decode (s .args .rec .now)) (stands d .keeps .last-lt) (c .before .before .before .before .base-of .ensures) fed)
+    _ (from-is (by s) _ (decode (s .args .rec .now)) (stands d .keeps .last-lt) (at-base-of .base-of .ensures) fed)
     (part (c .before .before .before)) (c .before .due .ensures (s .args .starts)) fed _ (c .resolution .ensures)
 
 pub decide-spec : {M : Type 1} → statement M

@@ -8,11 +8,14 @@ use Rattle.predictor.proofs.follow.Statement.{statement}
 use Rattle.predictor.proofs.follow.Tie as tie
 
 returns : tie.Need-returns
-returns c = let s = c .before .before .before .before in
+returns c =
+    let s = c .before .before .before .before in
     stray-none (s .pre .0) (s .args .set) (s .args .word .now) (sym (c .before .letter-off .ensures) ∙ c .if1 .taken)
 
 reach-by-requires : tie.Need-reach-by-requires
-reach-by-requires c κs = let p = c .before .before .before .before .pre in
+reach-by-requires c κs =
+    let start = c .before .before .before .before in
+    let p = start .pre in
     (p .0, p .1, letters-below _ _ (sym (c .before .letter-off .ensures) ∙ c .if1 .left))
 
 pub follow-spec : {M : Type 1} → statement M

@@ -76,10 +76,14 @@ trace-requires c κs =
     )
 
 add-lesser : tie.Need-add-lesser
-add-lesser c = omega (arith, few (c .before .before .before .before .before .before .before))
+add-lesser c =
+    let back-7 = c .before .before .before .before .before .before .before in
+    omega (arith, few back-7)
 
 add-upto : tie.Need-add-upto
-add-upto c = omega (arith, few (c .before .before .before .before .before .before .before .before))
+add-upto c =
+    let back-8 = c .before .before .before .before .before .before .before .before in
+    omega (arith, few back-8)
 
 sub-from : tie.Need-sub-from
 sub-from c = omega (arith, c .lesser .ensures)
@@ -94,7 +98,9 @@ part-copy-64-start : tie.Need-part-copy-64-start
 part-copy-64-start c = omega arith
 
 part-copy-64-end : tie.Need-part-copy-64-end
-part-copy-64-end c = let t = c .before .before .before .before in omega (arith, long t, few (held-before (based t)))
+part-copy-64-end c =
+    let t = c .before .before .before .before in
+    omega (arith, long t, few (held-before (based t)))
 
 copy-64-requires : tie.Need-copy-64-requires
 copy-64-requires c κs =
@@ -104,7 +110,8 @@ copy-64-requires c κs =
 
 returns : tie.Need-returns
 returns c =
-    let t = c .before .before .before .before .before .before .before .before in
+    let at-lesser = c .before .before .before .before .before .before in
+    let t = at-lesser .before .before in
     let b = based t in
     let g = held-before b in
     let s = start g in
@@ -112,7 +119,7 @@ returns c =
     let o = stands s in
     let all = t .trace .last .1 .1 .1 .1 .1 .0 in
     let h = g .held-of .result in
-    let count = c .before .before .before .before .before .before .lesser in
+    let count = at-lesser .lesser in
     let w = rw (held-whole (a .starts) (s .pre .0) (below b) o (is b) (part g) (t .trace .ensures .0)) at
     (t .trace .ensures .1 (a .starts)) in
     let room : suc h ≤ length all = omega (arith, long t, few g) in

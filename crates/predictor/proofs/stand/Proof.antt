@@ -6,7 +6,7 @@ use mathlib.Core.Path.{_≡_, sym, _∙_}
 use native.Mathlib.Omega.{arith}
 use borrow.Author.Tests.{not-true, not-false}
 use Rattle.records.specs.Bytes.{heldCount, decode, tidy}
-use Rattle.records.specs.inner.Taking.{regular}
+use Rattle.records.specs.Taking.{regular}
 use Rattle.slices.proofs.Parts.{part-first}
 use Rattle.records.proofs.Bytes.{tidy-out}
 use Rattle.predictor.proofs.Standing.{by-sets, keeps-in, from-lt, standing-untidy, standing-against, standing-walked}
@@ -39,8 +39,9 @@ regulars c = sym (numbers (c .before)) ∙ not-false (c .before .is-regular .res
 
 returns : tie.Need-returns
 returns c =
+    let at-start = c .before .before .before .before .before .before .before in
     let t = c .before in
-    standing-untidy _ _ _ (c .before .before .before .before .before .before .before .pre .2)
+    standing-untidy _ _ _ (at-start .pre .2)
     (sym (t .is-tidy .ensures) ∙ not-true (t .is-tidy .result) (c .if1 .taken))
 
 returns-2 : tie.Need-returns-2

@@ -22,7 +22,8 @@ add-if1 : tie.Need-add-if1
 add-if1 c = omega (arith, few (c .before .before .before))
 
 returns : tie.Need-returns
-returns c = let s = c .before .before .before .before in
+returns c =
+    let s = c .before .before .before .before in
     prepare-refused _ (held-proper (s .pre)) (table-short _ (held-proper (s .pre)) (held-passes (s .pre)) _ (c .if1 .taken))
     (λ e. omega arith)
 

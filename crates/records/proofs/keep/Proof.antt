@@ -6,7 +6,7 @@ use native.Mathlib.Numerals.{add-one}
 use native.Mathlib.Omega.{arith}
 use lib.ListN.{length, length-take, length-drop}
 use Rattle.streaming.specs.PlainWalk.{limit}
-use Rattle.records.specs.inner.Taking.{pushed}
+use Rattle.records.specs.Taking.{pushed}
 use Rattle.slices.proofs.Parts.{part-back}
 use Rattle.records.proofs.Bytes.{Tidy, tidy-out}
 use Rattle.records.proofs.Held.{taken-bytes}
@@ -24,7 +24,8 @@ push-requires c κs =
 
 add-write-numbers : tie.Need-add-write-numbers
 unfolding limit
-add-write-numbers c = let f = c .before .before .before .before .before .before .before in
+add-write-numbers c =
+    let f = c .before .before .before .before .before .before .before in
     omega (arith, f .fed-of .ensures, f .before .before .before .pre .2)
 
 add-lesser : tie.Need-add-lesser
@@ -35,14 +36,15 @@ add-lesser c =
 
 returns : tie.Need-returns
 returns c =
-    let g = c .before .before .before .before .before .before .before .before .before in
+    let at-push = c .before .before .before .before .before .before .before in
+    let g = at-push .before .before in
     let f = g .before .before in
     let s = f .before .before .before in
     let a = s .args in
     let b = a .rec .now in
     let h = g .held-of .result in
     let back = part-back 8 (length b - 8) b _ (λ l. pushed (a .k) h l (a .letter)) (omega arith)
-    (c .before .before .before .before .before .before .before .push .ensures) in
+    (at-push .push .ensures) in
     taken-bytes (a .k) b (s .pre .0) (tidied s) h _ (a .last) (a .letter) _ _ _ (g .held-of .ensures)
     (add-one (f .fed-of .result) ∙ ap suc (f .fed-of .ensures)) (c .before .before .before .lesser .ensures) back
     (c .before .before .write-numbers .ensures)

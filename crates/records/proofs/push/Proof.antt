@@ -11,7 +11,9 @@ returns : tie.Need-returns
 returns c = pushed-free _ _ _ _ (c .if1 .taken) (c .before .before .pre .1)
 
 returns-2 : tie.Need-returns-2
-returns-2 c = let a = c .before .before .before .before .before .before .before .args in let e : a .h ≡ a .k = omega arith in
+returns-2 c =
+    let start = c .before .before .before .before .before .before .before in
+    let a = start .args in let e : a .h ≡ a .k = omega arith in
     rw e (c .before .before .move-up .ensures)
 
 returns-3 : tie.Need-returns-3

@@ -12,11 +12,12 @@ use Rattle.records.proofs.start.Tie as tie
 
 returns : tie.Need-returns
 returns c =
-    let s = c .before .before .before .before .before .before .before .before .before in
+    let at-clear = c .before .before .before .before .before .before in
+    let s = at-clear .before .before .before in
     let b = s .args .rec .now in
     let k = s .args .k in
     let back = part-back 8 (length b - 8) b _ (λ l. replicate k 0 ++ drop k l) (omega arith)
-    (c .before .before .before .before .before .before .clear .ensures) in
+    (at-clear .clear .ensures) in
     begun-bytes k _ b _ _ (s .pre) back (c .before .before .write-numbers .ensures)
 
 pub start-spec : {M : Type 1} → statement M

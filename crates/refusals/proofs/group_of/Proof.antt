@@ -8,20 +8,27 @@ use Rattle.refusals.proofs.group_of.Statement.{statement}
 use Rattle.refusals.proofs.group_of.Tie as tie
 
 returns : tie.Need-returns
-returns c = logger (c .before .before .before .before .before .args .number) (omega arith) (omega arith)
+returns c =
+    let start = c .before .before .before .before .before in
+    logger (start .args .number) (omega arith) (omega arith)
 
 returns-2 : tie.Need-returns-2
 returns-2 c = nobody-low (c .before .before .args .number) (omega arith)
 
 returns-3 : tie.Need-returns-3
-returns-3 c = nobody-high (c .before .before .before .before .before .args .number)
-    (omega (arith, c .before .before .before .before .match .rest))
+returns-3 c =
+    let at-match = c .before .before .before .before in
+    let start = at-match .before in
+    nobody-high (start .args .number)
+    (omega (arith, at-match .match .rest))
 
 returns-4 : tie.Need-returns-4
 returns-4 c = sym (ap groupOf (c .match .keys2))
 
 returns-5 : tie.Need-returns-5
-returns-5 c = caller (c .before .before .before .before .args .number) (omega arith) (omega arith)
+returns-5 c =
+    let start = c .before .before .before .before in
+    caller (start .args .number) (omega arith) (omega arith)
 
 returns-6 : tie.Need-returns-6
 returns-6 c = sym (ap groupOf (c .match .keys1))

@@ -26,20 +26,29 @@ upto-requires : tie.Need-upto-requires Inv-loop μ-loop
 upto-requires c κs = tt
 
 slice-aggregate-turn : tie.Need-slice-aggregate-turn Inv-loop μ-loop
-slice-aggregate-turn c = sym (c .before .before .before .before .before .loop .inv .1)
+slice-aggregate-turn c =
+    let at-loop = c .before .before .before .before .before in
+    sym (at-loop .loop .inv .1)
 
 turn-requires : tie.Need-turn-requires Inv-loop μ-loop
-turn-requires c κs = let i = c .before .before .before .before .before .before .before .before .loop .inv in (i .0, omega (arith, i .1))
+turn-requires c κs =
+    let at-loop-8 = c .before .before .before .before .before .before .before .before in
+    let i = at-loop-8 .loop .inv in (i .0, omega (arith, i .1))
 
 sub-turns : tie.Need-sub-turns Inv-loop μ-loop
-sub-turns c = omega (arith, c .before .before .before .before .before .before .before .before .before .loop-test .taken)
+sub-turns c =
+    let at-loop-test = c .before .before .before .before .before .before .before .before .before in
+    omega (arith, at-loop-test .loop-test .taken)
 
 loop-less : tie.Need-loop-less Inv-loop μ-loop
-loop-less c = omega (arith, c .before .before .before .before .before .before .before .before .before .loop-test .taken)
+loop-less c =
+    let at-loop-test = c .before .before .before .before .before .before .before .before .before in
+    omega (arith, at-loop-test .loop-test .taken)
 
 loop-again : tie.Need-loop-again Inv-loop μ-loop
 loop-again c =
-    let i = c .before .before .before .before .before .before .before .before .before .before .loop .inv in
+    let at-loop = c .before .before .before .before .before .before .before .before .before .before in
+    let i = at-loop .loop .inv in
     (c .before .turn .ensures, c .before .turn .kept .1 .0 ∙ i .1)
 
 returns : tie.Need-returns Inv-loop μ-loop

@@ -17,8 +17,9 @@ slice-aggregate-step c = sym (length-take-le _ _ (slice-reshare-prefix-step (c .
 
 step-requires : tie.Need-step-requires
 step-requires c κs =
-    let few = simp (length-take, length-drop) at (c .before .before .before .before .count .ensures .0 .0) in
-    let u = c .before .before .before .before .before .before .before .before .before .before .before .before in
+    let at-count = c .before .before .before .before in
+    let u = at-count .before .before .before .before .before .before .before .before in
+    let few = simp (length-take, length-drop) at (at-count .count .ensures .0 .0) in
     simp length-take (omega (arith, few, u .upto .ensures, u .before .from .ensures, u .before .before .before .pre .0 .order))
 
 print-requires : tie.Need-print-requires

@@ -12,7 +12,8 @@ use Rattle.simulate.proofs.judge_set.Tie as tie
 
 ending-requires : tie.Need-ending-requires
 ending-requires c κs =
-    let p = c .before .before .before .before .pre in (p .0, rw (c .before .survivors-of .ensures 0) (setOf-lt _ _), p .2)
+    let start = c .before .before .before .before in
+    let p = start .pre in (p .0, rw (c .before .survivors-of .ensures 0) (setOf-lt _ _), p .2)
 
 returns : tie.Need-returns
 returns c starts = of-several _ _ _ (c .before .before .survivors-of .ensures starts) (c .before .if1 .taken) (c .ending .ensures starts)

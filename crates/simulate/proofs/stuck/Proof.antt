@@ -36,7 +36,8 @@ returns c starts =
 loop-again : tie.Need-loop-again Inv-loop μ-loop
 unfolding any
 loop-again c =
-    let i = c .before .before .before .before .loop .inv in
+    let at-loop = c .before .before .before .before in
+    let i = at-loop .loop .inv in
     (omega arith, λ starts. rw (add-one, i .1 starts) (none-of _ _ (c .before .before .gather .ensures .0 starts) (c .if1 .left)))
 
 returns-2 : tie.Need-returns-2 Inv-loop μ-loop

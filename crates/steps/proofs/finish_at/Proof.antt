@@ -7,30 +7,37 @@ use Rattle.steps.proofs.finish_at.Statement.{statement}
 use Rattle.steps.proofs.finish_at.Tie as tie
 
 add-result : tie.Need-add-result
-add-result c = absurd (rw (c .before .printed .given .1) at (c .before .before .before .before .before .finish .ensures))
+add-result c =
+    let at-finish = c .before .before .before .before .before in
+    absurd (rw (c .before .printed .given .1) at (at-finish .finish .ensures))
 
 add-result-2 : tie.Need-add-result-2
 add-result-2 c =
-    let s = c .before .before .before .before .before .before .before .before .before .before in
-    let p = (rw (c .before .printed2 .given .1) at (c .before .before .before .before .before .finish .ensures)) .1 in
+    let at-finish = c .before .before .before .before .before in
+    let s = at-finish .before .before .before .before .before in
+    let p = (rw (c .before .printed2 .given .1) at (at-finish .finish .ensures)) .1 in
     omega (arith, s .pre, part-long (s .args .at) (s .args .out .now), p .room .fits, p .end)
 
 enum-told : tie.Need-enum-told
 enum-told c = search needs
 
 returns : tie.Need-returns
-returns c = absurd (rw (c .before .printed .given .1) at (c .before .before .before .before .before .finish .ensures))
+returns c =
+    let at-finish = c .before .before .before .before .before in
+    absurd (rw (c .before .printed .given .1) at (at-finish .finish .ensures))
 
 returns-2 : tie.Need-returns-2
 returns-2 c =
-    let s = c .before .before .before .before .before .before .before .before .before .before in
-    let p = (rw (c .before .printed2 .given .1) at (c .before .before .before .before .before .finish .ensures)) .1 in
+    let at-finish = c .before .before .before .before .before in
+    let s = at-finish .before .before .before .before .before in
+    let p = (rw (c .before .printed2 .given .1) at (at-finish .finish .ensures)) .1 in
     appended-part (s .args .at) (s .args .out .now) _ _ (omega (arith, s .pre)) p
 
 returns-3 : tie.Need-returns-3
 returns-3 c =
-    let s = c .before .before .before .before .before .before .before .before .before in
-    let short = (rw (c .enum-told .given .1) at (c .before .before .before .before .finish .ensures)) .0 in
+    let at-finish = c .before .before .before .before in
+    let s = at-finish .before .before .before .before .before in
+    let short = (rw (c .enum-told .given .1) at (at-finish .finish .ensures)) .0 in
     absurd (omega (arith, s .pre, part-long (s .args .at) (s .args .out .now), short))
 
 pub finish-at-spec : {M : Type 1} → statement M

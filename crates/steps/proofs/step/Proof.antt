@@ -10,13 +10,19 @@ enum-told : tie.Need-enum-told
 enum-told c = search needs
 
 step-letters-requires : tie.Need-step-letters-requires
-step-letters-requires c κs = rw (c .before .before .before .enum-told .given .1) at (c .before .before .before .before .before .before .pre)
+step-letters-requires c κs =
+    let start = c .before .before .before .before .before .before in
+    rw (c .before .before .before .enum-told .given .1) at (start .pre)
 
 returns : tie.Need-returns
-returns c = rw (c .before .before .before .before .before .stage .given .1) (c .step-plan .ensures)
+returns c =
+    let at-stage = c .before .before .before .before .before in
+    rw (at-stage .stage .given .1) (c .step-plan .ensures)
 
 returns-2 : tie.Need-returns-2
-returns-2 c = rw (c .before .before .before .before .enum-told .given .1) (c .step-letters .ensures)
+returns-2 c =
+    let at-enum-told = c .before .before .before .before in
+    rw (at-enum-told .enum-told .given .1) (c .step-letters .ensures)
 
 returns-3 : tie.Need-returns-3
 returns-3 c = rw (c .enum-told2 .given .1) (stays, readable-over)

@@ -27,13 +27,15 @@ enum-told c = search needs
 
 returns-2 : tie.Need-returns-2
 returns-2 c =
+    let back-7 = c .before .before .before .before .before .before .before in
     let b = rw (c .before .printed .given .1) at (c .before .before .before .begin .ensures) in
-    (begins (ready (c .before .before .before .before .before .before .before)) b, readable-letters)
+    (begins (ready back-7) b, readable-letters)
 
 returns-3 : tie.Need-returns-3
 returns-3 c =
+    let back-7 = c .before .before .before .before .before .before .before in
     let b = rw (c .before .printed2 .given .1) at (c .before .before .before .begin .ensures) in
-    (begins-last (ready (c .before .before .before .before .before .before .before)) b, readable-over)
+    (begins-last (ready back-7) b, readable-over)
 
 returns-4 : tie.Need-returns-4
 returns-4 c =

@@ -28,10 +28,14 @@ shared-slice-read-t10 : tie.Need-shared-slice-read-t10
 shared-slice-read-t10 c = omega (arith, fit (c .before .before .before) .room)
 
 shared-slice-read-t13 : tie.Need-shared-slice-read-t13
-shared-slice-read-t13 c = omega (arith, fit (c .before .before .before .before) .room)
+shared-slice-read-t13 c =
+    let back-4 = c .before .before .before .before in
+    omega (arith, fit back-4 .room)
 
 returns-2 : tie.Need-returns-2
-returns-2 c = rw (sound (c .before .before .before .before))
+returns-2 c =
+    let back-4 = c .before .before .before .before in
+    rw (sound back-4)
 
 pub head-of-spec : {M : Type 1} → statement M
 head-of-spec =

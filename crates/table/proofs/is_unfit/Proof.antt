@@ -30,10 +30,14 @@ cast-mask : tie.Need-cast-mask
 cast-mask c = omega (arith, ranged (c .before .before .before))
 
 sub-result : tie.Need-sub-result
-sub-result c = ranged (c .before .before .before .before) .some-state
+sub-result c =
+    let back-4 = c .before .before .before .before in
+    ranged back-4 .some-state
 
 mul-result : tie.Need-mul-result
-mul-result c = omega (arith, pairs-le _ (ranged (c .before .before .before .before) .states))
+mul-result c =
+    let back-4 = c .before .before .before .before in
+    omega (arith, pairs-le _ (ranged back-4 .states))
 
 returns-4 : tie.Need-returns-4
 returns-4 c =

@@ -35,12 +35,16 @@ part c = rw (c .total .ensures .0)
 ill : (c : tie.After-reading)
     → outcomeOfReading (Refused (c .reading .given .0 .0))
     ≡ reading (planOf (c .before .before .before .before .before .before .before .before .before .before .before .before .args .input .now))
-ill c = rw (c .reading .given .1, part (c .before .before .before .before)) at (c .before .before .read .ensures)
+ill c =
+    let back-4 = c .before .before .before .before in
+    rw (c .reading .given .1, part back-4) at (c .before .before .read .ensures)
 
 counted : (c : tie.After-reading2) → let r = c .reading2 .given .0 in
     outcomeOfReading (Counts (r .0) (r .1 .0) (r .1 .1 .0) (r .1 .1 .1 .0))
     ≡ reading (planOf (c .before .before .before .before .before .before .before .before .before .before .before .before .args .input .now))
-counted c = rw (c .reading2 .given .1, part (c .before .before .before .before)) at (c .before .before .read .ensures)
+counted c =
+    let back-4 = c .before .before .before .before in
+    rw (c .reading2 .given .1, part back-4) at (c .before .before .read .ensures)
 
 counts-few : (c : tie.After-known-told2) → let r = c .before .reading2 .given .0 in
     length (countsLine (r .0) (r .1 .0) (r .1 .1 .0) (r .1 .1 .1 .0)) ≤ 50
@@ -53,70 +57,95 @@ refused-requires c κs = record { fits = omega (arith, refused-width 1 (omega ar
 
 returns-2 : tie.Need-returns-2
 returns-2 c =
-    let e = sym (c .before .before .before .before .before .no-plan .ensures) ∙ c .before .before .before .before .if2 .taken in (
-      lent (c .before .before .before .before .before .before),
+    let at-if2 = c .before .before .before .before in
+    let at-no-plan = at-if2 .before in
+    let back-6 = at-no-plan .before in
+    let start = back-6 .before .before .before .before .before in
+    let e = sym (at-no-plan .no-plan .ensures) ∙ at-if2 .if2 .taken in (
+      lent back-6,
       unread (inl e) refl refl refl,
       begun-no-plan
-          (c .before .before .before .before .before .before .before .before .before .before .before .args .input .now) e
+          (start .args .input .now) e
           (c .before .before .refused .ensures),
     )
 
 slice-aggregate-plan : tie.Need-slice-aggregate-plan
-slice-aggregate-plan c = let i = c .before .before .before .before .before .before .before .before .before .args .input .now in
+slice-aggregate-plan c =
+    let start = c .before .before .before .before .before .before .before .before .before in
+    let i = start .args .input .now in
     sym (length-take-le (c .before .total .result) i
     (omega (arith, c .before .total .ensures .0, whole i (is-plan (c .before .before)) .there)))
 
 refused-requires-2 : tie.Need-refused-requires-2
 refused-requires-2 c κs =
+    let back-9 = c .before .before .before .before .before .before .before .before .before in
     record {
       fits = omega (
         arith,
         refused-width (c .before .before .reading .given .0 .0) (omega (arith, c .before .known-told .given)),
         lent
-            (c .before .before .before .before .before .before .before .before .before) .2,
+            back-9 .2,
       );
     }
 
 counts-requires : tie.Need-counts-requires
 counts-requires c κs =
+    let back-9 = c .before .before .before .before .before .before .before .before .before in
     record {
       fits = omega
-          (arith, counts-few (c .before), lent (c .before .before .before .before .before .before .before .before .before) .2);
+          (arith, counts-few (c .before), lent back-9 .2);
     }
 
 prepared-requires : tie.Need-prepared-requires
-prepared-requires c κs = let s =
-    c .before .before .before .before .before .before .before .before .before .before .before .before .before .before .before .before .before .before .before .before in
-    let l = lent (c .before .before .before .before .before .before .before .before .before .before .before .before .before .before .before) in
-    let p = c .before .before .before .before .before .counts .ensures in (
-      rw (part (c .before .before .before .before .before .before .before .before .before .before .before .before))
+prepared-requires c κs =
+    let at-counts-5 = c .before .before .before .before .before in
+    let back-7 = at-counts-5 .before .before in
+    let back-8 = back-7 .before in
+    let back-12-12 = back-8 .before .before .before .before in
+    let back-15-15 = back-12-12 .before .before .before in
+    let back-20-20 = back-15-15 .before .before .before .before .before in
+    let s = back-20-20 in
+    let l = lent (back-15-15) in
+    let p = at-counts-5 .counts .ensures in (
+      rw (part (back-12-12))
           (read-well (planOf (s .args .input .now))
-          (counted (c .before .before .before .before .before .before .before .before))),
+          (counted back-8)),
       l .0,
       l .1,
       omega
-          (arith, l .2, p .end, appended-long p, counts-few (c .before .before .before .before .before .before .before)),
+          (arith, l .2, p .end, appended-long p, counts-few back-7),
     )
 
 returns-3 : tie.Need-returns-3
 returns-3 c =
+    let back-5 = c .before .before .before .before .before in
+    let back-10 = back-5 .before .before .before .before .before in
+    let back-12 = back-10 .before .before in
+    let start = back-12 .before .before .before .before .before in
     let (ill-formed, laid) =
-    begun-ill (c .before .before .before .before .before .before .before .before .before .before .before .before .before .before .before .before .before .args .input .now) (is-plan (c .before .before .before .before .before .before .before .before .before .before)) _ (ill (c .before .before .before .before .before)) (c .before .before .refused2 .ensures) in (
-      lent (c .before .before .before .before .before .before .before .before .before .before .before .before),
+    begun-ill (start .args .input .now) (is-plan back-10) _ (ill back-5) (c .before .before .refused2 .ensures) in (
+      lent back-12,
       unread
           (inr ill-formed) refl refl refl,
       laid,
     )
 
 returns-4 : tie.Need-returns-4
-returns-4 c = let s =
-    c .before .before .before .before .before .before .before .before .before .before .before .before .before .before .before .before .before .before .before .before .before .before .before .before .before .before .before .args in
-    let q = c .before .before .before .before .before .before .prepared in
-    let (lays, leaves) = rw
-    (part (c .before .before .before .before .before .before .before .before .before .before .before .before .before .before .before .before .before .before .before)) at (q .ensures) in
+returns-4 c =
+    let at-prepared = c .before .before .before .before .before .before in
+    let at-counts = at-prepared .before .before .before .before .before .before in
+    let back-15 = at-counts .before .before .before in
+    let back-19 = back-15 .before .before .before .before in
+    let back-20 = back-19 .before in
+    let back-22 = back-20 .before .before in
+    let start = back-22 .before .before .before .before .before in
+    let s = start .args in
+    let q = at-prepared .prepared in
+    let (lays, leaves) = rw (part back-19) at (q .ensures) in
     begun-well (s .input .now)
-    (is-plan (c .before .before .before .before .before .before .before .before .before .before .before .before .before .before .before .before .before .before .before .before)) (counted (c .before .before .before .before .before .before .before .before .before .before .before .before .before .before .before)) (c .before .before .before .before .before .before .before .before .before .before .before .before .counts .ensures) (q .result) (s .table .now) (s .rec .now) (q .last .1 .0) (q .last .1 .1 .0) (q .last .1 .1 .1 .0)
-    (lent (c .before .before .before .before .before .before .before .before .before .before .before .before .before .before .before .before .before .before .before .before .before .before)) lays leaves
+    (is-plan back-20) (counted back-15) (at-counts .counts .ensures) (q .result) (s .table .now) (s .rec .now) (q .last .1 .0)
+    (q .last .1 .1 .0) (q .last .1 .1 .1 .0)
+    (lent back-22) lays leaves
 
 pub begin-spec : {M : Type 1} → statement M
 begin-spec =

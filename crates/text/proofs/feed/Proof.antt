@@ -28,36 +28,54 @@ feed-requires : tie.Need-feed-requires Inv-loop μ-loop
 feed-requires c κs = tt
 
 reply-requires : tie.Need-reply-requires Inv-loop μ-loop
-reply-requires c κs = let u = c .before .before .before .before .before .before .before .loop .inv .1 in
-    omega (arith, u .few, appended-long (u .put), c .before .before .before .before .before .before .before .before .if1 .left)
+reply-requires c κs =
+    let at-loop-7 = c .before .before .before .before .before .before .before in
+    let at-if1-8 = at-loop-7 .before in
+    let u = at-loop-7 .loop .inv .1 in
+    omega (arith, u .few, appended-long (u .put), at-if1-8 .if1 .left)
 
 is-refusal-requires : tie.Need-is-refusal-requires Inv-loop μ-loop
 is-refusal-requires c κs = tt
 
 same-length : tie.Need-same-length Inv-loop μ-loop
-same-length c = c .before .before .before .before .before .before .before .before .feed .kept .1 .0
-    ∙ c .before .before .before .before .before .before .before .before .before .before .before .before .loop .inv .1 .long
+same-length c =
+    let at-feed = c .before .before .before .before .before .before .before .before in
+    let at-loop = at-feed .before .before .before .before in
+    at-feed .feed .kept .1 .0
+    ∙ at-loop .loop .inv .1 .long
 
 same-length-2 : tie.Need-same-length-2 Inv-loop μ-loop
-same-length-2 c = c .before .before .before .before .reply .kept .0
-    ∙ appended-long (c .before .before .before .before .before .before .before .before .before .before .before .before .loop .inv .1 .put)
+same-length-2 c =
+    let at-reply = c .before .before .before .before in
+    let at-loop = at-reply .before .before .before .before .before .before .before .before in
+    at-reply .reply .kept .0
+    ∙ appended-long (at-loop .loop .inv .1 .put)
 
 returns-2 : tie.Need-returns-2 Inv-loop μ-loop
-returns-2 c = let f = c .before .before .before .before .before .before .before .before .feed .ensures in
-    let u = c .before .before .before .before .before .before .before .before .before .before .before .before .loop .inv .1 in
-    let p = c .before .before .before .before .reply .ensures in
-    let lent = c .before .before .before .before .before .before .before .before .before .before .before .before .before .if1 .left in
+returns-2 c =
+    let at-reply = c .before .before .before .before in
+    let at-feed = at-reply .before .before .before .before in
+    let at-loop = at-feed .before .before .before .before in
+    let at-if1 = at-loop .before in
+    let f = at-feed .feed .ensures in
+    let u = at-loop .loop .inv .1 in
+    let p = at-reply .reply .ensures in
+    let lent = at-if1 .if1 .left in
     let (fed, laid) = upto-refused u (omega arith) (f .0) (f .1) (p .0) (sym (c .before .is-refusal .ensures) ∙ c .if2 .taken) in
     ((omega (arith, lent), fed, laid), omega (arith, u .few, p .1))
 
 loop-again : tie.Need-loop-again Inv-loop μ-loop
-loop-again c = let f = c .before .before .before .before .before .before .before .before .feed .ensures in
-    let p = c .before .before .before .before .reply .ensures in (
+loop-again c =
+    let at-reply = c .before .before .before .before in
+    let at-feed = at-reply .before .before .before .before in
+    let at-loop = at-feed .before .before .before .before in
+    let f = at-feed .feed .ensures in
+    let p = at-reply .reply .ensures in (
       omega arith,
       upto-next
-          (c .before .before .before .before .before .before .before .before .before .before .before .before .loop .inv .1) (omega arith)
+          (at-loop .loop .inv .1) (omega arith)
           (f .0) (f .1) (p .0) (sym (c .before .is-refusal .ensures) ∙ c .if2 .left)
-          (c .before .before .before .before .before .before .before .before .feed .kept .1 .0) (p .1),
+          (at-feed .feed .kept .1 .0) (p .1),
     )
 
 same-length-3 : tie.Need-same-length-3 Inv-loop μ-loop

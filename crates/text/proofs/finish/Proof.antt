@@ -15,8 +15,8 @@ use Rattle.text.proofs.finish.Tie as tie
 few : (c : tie.After-ended2) → let s = c .before .before .before .before .before .before .before .before .before in
     (c .ended2 .given .0 .0 ≡ length (ended (s .args .table .now) (s .args .rec .now))) × (c .ended2 .given .0 .0 ≤ 2016)
 few c =
-    let (_, (e, is)) = rw (c .ended2 .given .1) at (c .before .before .before .finish .ensures) in
-    let s = c .before .before .before .before .before .before .before .before .before in (
+    let s = c .before .before .before .before .before .before .before .before .before in
+    let (_, (e, is)) = rw (c .ended2 .given .1) at (c .before .before .before .finish .ensures) in (
       e,
       omega (
         arith,
@@ -31,55 +31,73 @@ within c = omega (arith, few c .1, c .before .before .before .finish .kept .1 .1
 
 refused-requires : tie.Need-refused-requires
 refused-requires c κs =
+    let at-if1-7 = c .before .before .before .before .before .before .before in
     record {
       fits = omega (
         arith,
         refused-width (c .before .before .ended .given .0 .0)
             (omega (arith, c .before .known-told .given)),
-        c .before .before .before .before .before .before .before .if1 .left,
+        at-if1-7 .if1 .left,
       );
     }
 
 array-share-prefix-sets : tie.Need-array-share-prefix-sets
-array-share-prefix-sets c = within (c .before .before .before .before)
+array-share-prefix-sets c =
+    let back-4 = c .before .before .before .before in
+    within back-4
 
 slice-aggregate-open-lines : tie.Need-slice-aggregate-open-lines
 slice-aggregate-open-lines c =
-    sym (length-take-le (c .before .before .before .before .before .ended2 .given .0 .0)
-    (c .before .before .before .before .before .before .before .before .finish .last .1 .1 .0)
-    (within (c .before .before .before .before .before)))
+    let at-ended2 = c .before .before .before .before .before in
+    let at-finish = at-ended2 .before .before .before in
+    sym (length-take-le (at-ended2 .ended2 .given .0 .0)
+    (at-finish .finish .last .1 .1 .0)
+    (within at-ended2))
 
 open-lines-requires : tie.Need-open-lines-requires
-open-lines-requires c κs = let e = c .before .before .before .before .before in
+open-lines-requires c κs =
+    let e = c .before .before .before .before .before in
+    let at-finish-8 = e .before .before .before in
+    let at-if1-10 = at-finish-8 .before .before in
     let l = length-take-le (e .ended2 .given .0 .0)
-    (c .before .before .before .before .before .before .before .before .finish .last .1 .1 .0) (within e) in
+    (at-finish-8 .finish .last .1 .1 .0) (within e) in
     rw l (
-      omega (arith, few e .1, c .before .before .before .before .before .before .before .before .before .before .if1 .left),
+      omega (arith, few e .1, at-if1-10 .if1 .left),
       omega
           (arith, c .before .before .less .ensures, c .before .before .before .fed-of .ensures),
       few e .1,
     )
 
 returns-2 : tie.Need-returns-2
-returns-2 c = let (e, n, _) =
-    rw (c .before .before .before .before .before .ended .given .1) at
-    (c .before .before .before .before .before .before .before .before .finish .ensures) in (
-      omega (arith, c .before .before .before .before .before .before .before .before .before .before .if1 .left),
+returns-2 c =
+    let at-ended = c .before .before .before .before .before in
+    let at-finish = at-ended .before .before .before in
+    let at-if1 = at-finish .before .before in
+    let start = at-if1 .before .before .before .before in
+    let (e, n, _) =
+    rw (at-ended .ended .given .1) at
+    (at-finish .finish .ensures) in (
+      omega (arith, at-if1 .if1 .left),
       finished-refused
-          (c .before .before .before .before .before .before .before .before .before .before .before .before .before .before .args .table .now) (c .before .before .before .before .before .before .before .before .before .before .before .before .before .before .args .rec .now) _ e n (c .before .before .refused .ensures),
+          (start .args .table .now) (start .args .rec .now) _ e n (c .before .before .refused .ensures),
     )
 
 returns-3 : tie.Need-returns-3
-returns-3 c = let e = c .before .before .before .before .before .before .before .before in
-    let s = c .before .before .before .before .before .before .before .before .before .before .before .before .before .before .before .before .before in
+returns-3 c =
+    let at-less = c .before .before .before .before .before in
+    let at-fed-of = at-less .before in
+    let e = at-fed-of .before .before in
+    let at-finish = e .before .before .before in
+    let at-if1 = at-finish .before .before in
+    let s = at-if1 .before .before .before .before in
     let (z, (_, is)) = rw (e .ended2 .given .1) at
-    (c .before .before .before .before .before .before .before .before .before .before .before .finish .ensures) in (
-      omega (arith, c .before .before .before .before .before .before .before .before .before .before .before .before .before .if1 .left),
+    (at-finish .finish .ensures) in (
+      omega (arith, at-if1 .if1 .left),
       finished-open (s .args .table .now) (s .args .rec .now) z (e .ended2 .given .0 .0)
-          (c .before .before .before .before .before .less .result)
-          (c .before .before .before .before .before .before .before .before .before .before .before .finish .last .1 .1 .0) _ (few e .0) is
-          (c .before .before .before .before .before .less .ensures
-          ∙ ap (λ (x : ℕ). x + 1 - e .ended2 .given .0 .0) (c .before .before .before .before .before .before .fed-of .ensures .0))
+          (at-less .less .result)
+          (at-finish .finish .last .1 .1 .0) _ (few e .0) is
+          (at-less .less .ensures
+          ∙ ap (λ (x : ℕ). x + 1 - e .ended2 .given .0 .0) (at-fed-of .fed-of .ensures .0))
           (c .before .before .open-lines .ensures),
     )
 

@@ -19,15 +19,17 @@ loop-holds c = (omega arith, lined-none _ _ _)
 
 open-line-requires : tie.Need-open-line-requires Inv-loop μ-loop
 open-line-requires c κs =
+    let start = c .before .before .before .before .before .before in
     lined-room (c .before .before .before .loop .inv .1) (omega arith)
-    (c .before .before .before .before .before .before .pre .0) (omega arith)
+    (start .pre .0) (omega arith)
 
 loop-again : tie.Need-loop-again Inv-loop μ-loop
-loop-again c = (
-  omega arith,
-  lined-next (c .before .before .before .before .before .before .loop .inv .1) (omega arith) (omega arith)
-      (c .before .before .open-line .ensures),
-)
+loop-again c =
+    let at-loop = c .before .before .before .before .before .before in (
+      omega arith,
+      lined-next (at-loop .loop .inv .1) (omega arith) (omega arith)
+          (c .before .before .open-line .ensures),
+    )
 
 same-length : tie.Need-same-length Inv-loop μ-loop
 same-length c = appended-long (c .before .loop .inv .1 .put)

@@ -7,21 +7,27 @@ use Rattle.text.proofs.opened.Statement.{statement}
 use Rattle.text.proofs.opened.Tie as tie
 
 returns : tie.Need-returns
-returns c = let s = c .before .before .before .before .before .before .before .before .before .before .before .before .before in
-    let o = c .before .before .before .before .before .before .before .before .«open» .ensures in
+returns c =
+    let at-reply = c .before .before .before .before in
+    let back-8 = at-reply .before .before .before .before in
+    let s = back-8 .before .before .before .before .before in
+    let o = back-8 .«open» .ensures in
     let e = sym (c .before .is-refusal .ensures) ∙ c .if1 .taken in (
       opened-ends (s .args .table .now) (s .pre .0) (s .pre .1) (s .args .rec .now) (s .pre .2) (o .0) (o .1)
-          (c .before .before .before .before .reply .ensures .0) e,
+          (at-reply .reply .ensures .0) e,
       o .1,
       rw (← o .0) e,
     )
 
 returns-2 : tie.Need-returns-2
-returns-2 c = let s = c .before .before .before .before .before .before .before .before .before .before .before .before .before in
-    let o = c .before .before .before .before .before .before .before .before .«open» .ensures in
+returns-2 c =
+    let at-reply = c .before .before .before .before in
+    let back-8 = at-reply .before .before .before .before in
+    let s = back-8 .before .before .before .before .before in
+    let o = back-8 .«open» .ensures in
     let e = sym (c .before .is-refusal .ensures) ∙ c .if1 .left in (
       opened-goes (s .args .table .now) (s .pre .0) (s .pre .1) (s .args .rec .now) (s .pre .2) (o .0) (o .1)
-          (c .before .before .before .before .reply .ensures .0) e,
+          (at-reply .reply .ensures .0) e,
       o .1,
       rw (← o .0) e,
     )

@@ -29,7 +29,9 @@ table c = c .before .before .before .before .before .prepare .last .1 .0
 
 ready : (c : tie.After-prepared) → let a = start c .args in let k = c .prepared .given .0 .0 in
     Lookahead (meaning (a .plan .now)) k × (table c ≡ laidOut (meaning (a .plan .now)) k (a .table .now))
-ready c = let ((_, l), t, _) = rw (c .prepared .given .1) at (c .before .before .before .before .before .prepare .ensures) in (l, t)
+ready c =
+    let at-prepare = c .before .before .before .before .before in
+    let ((_, l), t, _) = rw (c .prepared .given .1) at (at-prepare .prepare .ensures) in (l, t)
 
 reads : (c : tie.After-prepared) → Reads (meaning (start c .args .plan .now)) (c .prepared .given .0 .0) (table c)
 reads c = let s = start c in let (l, t) = ready c in
@@ -37,21 +39,25 @@ reads c = let s = start c in let (l, t) = ready c in
 
 lookahead-requires : tie.Need-lookahead-requires
 lookahead-requires c κs =
+    let at-start = c .before .before .before .before .before .before .before .before .before .before .before .before .before .before in
     record {
       fits = omega (
         arith,
         lookahead-width (c .before .before .prepared .given .0 .0)
             (omega (arith, c .before .known-told .given)),
-        c .before .before .before .before .before .before .before .before .before .before .before .before .before .before .pre .3,
+        at-start .pre .3,
       );
     }
 
 opened-requires : tie.Need-opened-requires
-opened-requires c κs = let r = c .before .before .before .before .before .before .before .before in
+opened-requires c κs =
+    let at-lookahead-5 = c .before .before .before .before .before in
+    let at-known-told = at-lookahead-5 .before .before in
+    let r = at-known-told .before in
+    let s = r .before .before .before .before .before .before .before .before .before .before .before .before in
     let l = ready r .0 in
     let t = reads r in
-    let p = c .before .before .before .before .before .lookahead .ensures in
-    let s = c .before .before .before .before .before .before .before .before .before .before .before .before .before .before .before .before .before .before .before .before in (
+    let p = at-lookahead-5 .lookahead .ensures in (
       t .fit,
       rw (t .means, t .k-is) l,
       s .pre .2,
@@ -60,20 +66,21 @@ opened-requires c κs = let r = c .before .before .before .before .before .befor
         p .end,
         appended-long p,
         lookahead-width
-            (c .before .before .before .before .before .before .before .before .prepared .given .0 .0)
-            (omega (arith, c .before .before .before .before .before .before .before .known-told .given)),
+            (r .prepared .given .0 .0)
+            (omega (arith, at-known-told .known-told .given)),
         s .pre .3,
       ),
     )
 
 refused-requires : tie.Need-refused-requires
 refused-requires c κs =
+    let at-start = c .before .before .before .before .before .before .before .before .before .before .before .before .before .before in
     record {
       fits = omega (
         arith,
         refused-width (c .before .before .prepared2 .given .0 .0)
             (omega (arith, c .before .known-told2 .given)),
-        c .before .before .before .before .before .before .before .before .before .before .before .before .before .before .pre .3,
+        at-start .pre .3,
       );
     }
 
@@ -82,37 +89,46 @@ enum-told c = search needs
 
 refused-requires-2 : tie.Need-refused-requires-2
 refused-requires-2 c κs =
+    let at-start = c .before .before .before .before .before .before .before .before .before .before .before .before .before in
     record {
       fits = omega (
         arith,
         refused-width 15
             (omega arith),
-        c .before .before .before .before .before .before .before .before .before .before .before .before .before .pre .3,
+        at-start .pre .3,
       );
     }
 
 returns : tie.Need-returns
-returns c = let r = c .before .before .before .before .before .before .before .before .before .before .before .before .before in
+returns c =
+    let at-opened = c .before .before .before .before in
+    let at-lookahead = at-opened .before .before .before .before .before .before in
+    let r = at-lookahead .before .before .before in
     let (l, t) = ready r in
-    let (lays, left, ends) = c .before .before .before .before .opened .ensures in (
-      counted l (reads r) (c .before .before .before .before .before .before .before .before .before .before .lookahead .ensures)
-          (c .before .before .before .before .opened .result) (c .before .before .before .before .opened .last .1 .1 .0)
-          (c .before .before .before .before .opened .last .1 .0) lays,
+    let (lays, left, ends) = at-opened .opened .ensures in (
+      counted l (reads r) (at-lookahead .lookahead .ensures)
+          (at-opened .opened .result) (at-opened .opened .last .1 .1 .0)
+          (at-opened .opened .last .1 .0) lays,
       opens _ l t left ends,
     )
 
 returns-2 : tie.Need-returns-2
-returns-2 c = let s =
-    c .before .before .before .before .before .before .before .before .before .before .before .before .before .before .before .before .before in
+returns-2 c =
+    let at-prepared2 = c .before .before .before .before .before in
+    let at-prepare = at-prepared2 .before .before .before .before .before in
+    let back-17 = at-prepare .before .before .before .before .before .before .before in
+    let s = back-17 in
     let (e, n, _, _) = prepare-refused-so (asked (s .args .plan .now)) (asked-proper (s .args .plan .now))
-    (rw (c .before .before .before .before .before .prepared2 .given .1) at
-    (c .before .before .before .before .before .before .before .before .before .before .prepare .ensures)) in
+    (rw (at-prepared2 .prepared2 .given .1) at
+    (at-prepare .prepare .ensures)) in
     absurd (n (e ∙ prepare-taken (s .args .plan .now) (s .pre .0) (length (s .args .table .now)) 4096 (s .pre .1) (omega arith)))
 
 returns-3 : tie.Need-returns-3
 returns-3 c =
-    let (_, kept, e) = rw (c .before .before .before .before .enum-told .given .1) at
-    (c .before .before .before .before .before .before .before .before .before .prepare .ensures) in
+    let at-enum-told = c .before .before .before .before in
+    let at-prepare = at-enum-told .before .before .before .before .before in
+    let (_, kept, e) = rw (at-enum-told .enum-told .given .1) at
+    (at-prepare .prepare .ensures) in
     (never-counted (shown-never e) (c .before .before .refused2 .ensures), unpredictable (shown-never e) refl kept refl)
 
 pub prepared-spec : {M : Type 1} → statement M

@@ -18,27 +18,37 @@ resolution-few : (c : tie.After-known-told2)
 resolution-few c = resolution-width _ _ (omega (arith, c .known-told2 .given)) (omega (arith, c .known-told2 .given))
 
 refused-requires : tie.Need-refused-requires
-refused-requires c κs = record { fits = omega (arith, refused-few (c .before), c .before .before .before .before .before .pre) }
+refused-requires c κs =
+    let start = c .before .before .before .before .before in
+    record { fits = omega (arith, refused-few (c .before), start .pre) }
 
 resolution-requires : tie.Need-resolution-requires
-resolution-requires c κs = record { fits = omega (arith, resolution-few (c .before), c .before .before .before .before .before .pre) }
+resolution-requires c κs =
+    let start = c .before .before .before .before .before in
+    record { fits = omega (arith, resolution-few (c .before), start .pre) }
 
 enum-told : tie.Need-enum-told
 enum-told c = search needs
 
 returns : tie.Need-returns
-returns c = rw (c .before .before .before .before .before .answer .given .1) (
-  c .before .before .refused .ensures,
-  omega
-      (arith, c .before .before .refused .ensures .end, refused-few (c .before .before .before .before)),
-)
+returns c =
+    let back-4 = c .before .before .before .before in
+    let at-answer = back-4 .before in
+    rw (at-answer .answer .given .1) (
+      c .before .before .refused .ensures,
+      omega
+          (arith, c .before .before .refused .ensures .end, refused-few back-4),
+    )
 
 returns-2 : tie.Need-returns-2
-returns-2 c = rw (c .before .before .before .before .before .answer2 .given .1) (
-  c .before .before .resolution .ensures,
-  omega
-      (arith, c .before .before .resolution .ensures .end, resolution-few (c .before .before .before .before)),
-)
+returns-2 c =
+    let back-4 = c .before .before .before .before in
+    let at-answer2 = back-4 .before in
+    rw (at-answer2 .answer2 .given .1) (
+      c .before .before .resolution .ensures,
+      omega
+          (arith, c .before .before .resolution .ensures .end, resolution-few back-4),
+    )
 
 returns-3 : tie.Need-returns-3
 returns-3 c = let s = c .before .before .before in

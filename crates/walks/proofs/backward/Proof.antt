@@ -27,7 +27,9 @@ back-requires c κs =
     (t .before .before .before .before .before .pre .0, here-lt i h, letter-lt i h, next-lt i h)
 
 loop-again : tie.Need-loop-again Inv-loop μ-loop
-loop-again c = let t = c .before .before .before .before in backed-next (t .before .loop .inv) (t .loop-test .taken) (c .back .ensures)
+loop-again c =
+    let t = c .before .before .before .before in
+    backed-next (t .before .loop .inv) (t .loop-test .taken) (c .back .ensures)
 
 same-length : tie.Need-same-length Inv-loop μ-loop
 same-length c = c .before .loop .inv .long

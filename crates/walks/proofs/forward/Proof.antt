@@ -38,7 +38,9 @@ gather-requires c κs =
     (p .0, rw (t .loop .inv .is) (setOf-lt _ _), p .3 .below (t .loop .g) (c .before .loop-test .taken))
 
 same-length : tie.Need-same-length Inv-loop μ-loop
-same-length c = long (c .before .before .before .before .before)
+same-length c =
+    let back-5 = c .before .before .before .before .before in
+    long back-5
 
 returns : tie.Need-returns Inv-loop μ-loop
 returns c =
@@ -51,7 +53,9 @@ returns c =
     )
 
 slice-write-out-2 : tie.Need-slice-write-out-2 Inv-loop μ-loop
-slice-write-out-2 c = let t = c .before .before .before .before .before in omega (arith, long t, start t .pre .4)
+slice-write-out-2 c =
+    let t = c .before .before .before .before .before in
+    omega (arith, long t, start t .pre .4)
 
 loop-again : tie.Need-loop-again Inv-loop μ-loop
 loop-again c =

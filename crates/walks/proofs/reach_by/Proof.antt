@@ -27,8 +27,9 @@ cast-gather c = omega (arith, c .shared-slice-known3 .given (c .before .before .
 
 gather-requires : tie.Need-gather-requires Inv-loop μ-loop
 gather-requires c κs =
+    let at-start = c .before .before .before .before .before in
     let i = c .before .before .loop in
-    let p = c .before .before .before .before .before .pre in
+    let p = at-start .pre in
     (p .0, rw (i .inv .1) (setOf-lt _ _), p .2 .below (i .i) (c .before .loop-test .taken))
 
 loop-again : tie.Need-loop-again Inv-loop μ-loop
@@ -38,8 +39,9 @@ loop-again c =
 
 returns : tie.Need-returns Inv-loop μ-loop
 returns c starts =
+    let start = c .before .before .before .before in
     let i = c .before .loop in
-    let a = c .before .before .before .before .args in
+    let a = start .args in
     rw (
       reach-bare (a .n) (a .m) starts (a .sets .now) (has (a .set)) (a .word .now),
       ← take-all (i .i) (a .word .now)

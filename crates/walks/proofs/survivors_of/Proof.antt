@@ -23,7 +23,8 @@ slice-aggregate-survivors-with c = sym (length-take-le _ _ (omega arith))
 
 cast-survivors-with : tie.Need-cast-survivors-with
 cast-survivors-with c =
-    omega (arith, c .shared-slice-known3 .given (length (c .before .before .before .before .before .args .word .now) - 1))
+    let start = c .before .before .before .before .before in
+    omega (arith, c .shared-slice-known3 .given (length (start .args .word .now) - 1))
 
 survivors-with-requires : tie.Need-survivors-with-requires
 survivors-with-requires c κs =

@@ -34,8 +34,9 @@ backward-requires c κs =
 
 returns : tie.Need-returns
 returns c =
+    let at-forward = c .before .before .before .before .before .before .before in
     let b = c .before .before .backward .ensures in
-    let f = c .before .before .before .before .before .before .before .forward .ensures in
+    let f = at-forward .forward .ensures in
     (f .0, λ starts. record { sets = b starts .sets; kept = b starts .kept ∙ f .1 .kept })
 
 pub trace-spec : {M : Type 1} → statement M

@@ -38,7 +38,9 @@ abbrev entry : tie.Else1 Inv-loop μ-loop → tie.Start Inv-loop μ-loop
 entry c = masked c .before .before
 
 abbrev start : tie.At-loop Inv-loop μ-loop → tie.Start Inv-loop μ-loop
-start c = entry (c .before .before .before .before .before .before)
+start c =
+    let back-6 = c .before .before .before .before .before .before in
+    entry back-6
 
 abbrev turn : tie.After-without2 Inv-loop μ-loop → tie.In-loop Inv-loop μ-loop
 turn c = c .before .before .before
