@@ -10,7 +10,8 @@ ghost use Rattle.refusals.specs.Groups.{groupOf};
 ghost use Rattle.prepare.specs.Preparing.{Draws};
 ghost use Rattle.predictor.specs.Calls.{tableCheck};
 ghost use Rattle.gawherino.specs.Numbers.{ofPrepared, ofAnswer, Fit32, Passed, noRoom, groupNumber};
-ghost use Rattle.gawherino.specs.Promises.{claimOf, PassesReading, PassesPrepared, PassesCount, PassesCheck, PassesWalk, PassesVerdict, PassesOpening, PassesLetter, PassesEnding};
+ghost use Rattle.gawherino.specs.Promises.{claimOf, PassesReading, PassesPrepared, PassesCount, PassesCheck, PassesWalk};
+ghost use Rattle.gawherino.specs.Promises.{PassesVerdict, PassesOpening, PassesLetter, PassesEnding};
 use claim::Checked;
 use lookahead::Evidence;
 use plan::Reading;
@@ -99,7 +100,8 @@ pub extern "C" fn gawherino_prepare(
     letters: &mut [u8],
     evidence: &mut [u32],
 ) -> u32
-    ensures { λ r. ⌜ PassesPrepared (asked (now (plan .entry))) r (now (table .entry)) (now (table .exit)) (now (letters .entry)) (now (letters .exit)) (now (evidence .entry)) (now (evidence .exit)) ⌝ }
+    ensures { λ r. ⌜ PassesPrepared (asked (now (plan .entry))) r (now (table .entry)) (now (table .exit)) (now (letters .entry))
+        (now (letters .exit)) (now (evidence .entry)) (now (evidence .exit)) ⌝ }
 {
     if evidence.len() < EVIDENCE {
         return no_room_on_plan(plan);
@@ -111,7 +113,8 @@ pub extern "C" fn gawherino_prepare(
 // The count call, which answers as preparing does.
 #[no_mangle]
 pub extern "C" fn gawherino_look_ahead(plan: &[u8], letters: &mut [u8], evidence: &mut [u32]) -> u32
-    ensures { λ r. ⌜ PassesCount (asked (now (plan .entry))) r (now (letters .entry)) (now (letters .exit)) (now (evidence .entry)) (now (evidence .exit)) ⌝ }
+    ensures { λ r. ⌜ PassesCount (asked (now (plan .entry))) r (now (letters .entry)) (now (letters .exit)) (now (evidence .entry))
+        (now (evidence .exit)) ⌝ }
 {
     if evidence.len() < EVIDENCE {
         return no_room_on_plan(plan);
@@ -178,7 +181,8 @@ pub extern "C" fn gawherino_walk(
     sets: &mut [u64],
     length: &mut [u64],
 ) -> u32
-    ensures { λ r. ⌜ PassesWalk (now (table .entry)) (now (word .entry)) r (now (sets .entry)) (now (sets .exit)) (now (length .entry)) (now (length .exit)) ⌝ }
+    ensures { λ r. ⌜ PassesWalk (now (table .entry)) (now (word .entry)) r (now (sets .entry)) (now (sets .exit)) (now (length .entry))
+        (now (length .exit)) ⌝ }
 {
     if length.len() < 1 {
         return no_room_on_table(table);
@@ -239,7 +243,8 @@ fn pass_answer(answer: Answer, position: &mut [u32]) -> u32
 // Opening: the resolved state, or 255; further its position.
 #[no_mangle]
 pub extern "C" fn gawherino_open(table: &[u64], rec: &mut [u8], position: &mut [u32]) -> u32
-    ensures { λ r. ⌜ PassesOpening (now (table .entry)) r (now (rec .entry)) (now (rec .exit)) (now (position .entry)) (now (position .exit)) ⌝ }
+    ensures { λ r. ⌜ PassesOpening (now (table .entry)) r (now (rec .entry)) (now (rec .exit)) (now (position .entry))
+        (now (position .exit)) ⌝ }
 {
     if position.len() < POSITION {
         return no_room_on_table(table);
@@ -256,7 +261,8 @@ pub extern "C" fn gawherino_feed(
     letter: u32,
     position: &mut [u32],
 ) -> u32
-    ensures { λ r. ⌜ PassesLetter (now (table .entry)) letter r (now (rec .entry)) (now (rec .exit)) (now (position .entry)) (now (position .exit)) ⌝ }
+    ensures { λ r. ⌜ PassesLetter (now (table .entry)) letter r (now (rec .entry)) (now (rec .exit)) (now (position .entry))
+        (now (position .exit)) ⌝ }
 {
     if position.len() < POSITION {
         return no_room_on_table(table);

@@ -2,7 +2,8 @@
 ghost use mathlib.Core.Bool.{cond};
 ghost use mathlib.Core.List.{[]};
 ghost use Rattle.bitset.specs.Numbers.{has};
-ghost use Rattle.lines.specs.Lines.{decimal, field as Lines·field, space, groupWord, countsLine, lookaheadLine, refusedLine, resolutionLine, listed, openLine, Room, Appended};
+ghost use Rattle.lines.specs.Lines.{decimal, field as Lines·field, space, groupWord, countsLine, lookaheadLine, refusedLine};
+ghost use Rattle.lines.specs.Lines.{resolutionLine, listed, openLine, Room, Appended};
 use refusals::Group;
 
 // Bytes, as they are.

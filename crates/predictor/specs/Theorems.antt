@@ -21,7 +21,8 @@ pub record Theorems (table bytes : List ℕ) : Type 0 where
   pub opening-is : unfit table ≡ false → heldFrom + lookaheadOf table ≤ length bytes
       → openedOn table bytes ≡ onto (lookaheadOf table) bytes (opened (tableMeaning table) (lookaheadOf table))
   pub feeding-is : unfit table ≡ false → heldFrom + lookaheadOf table ≤ length bytes → tidy (lookaheadOf table) bytes ≡ true
-      → (letter : ℕ) → fedOn table bytes letter ≡ onto (lookaheadOf table) bytes (feed (tableMeaning table) (lookaheadOf table) (decode bytes) letter)
+      → (letter : ℕ) → fedOn table bytes letter
+      ≡ onto (lookaheadOf table) bytes (feed (tableMeaning table) (lookaheadOf table) (decode bytes) letter)
   -- the answer is 14 exactly if none of 8 to 13 applies, a position is due, and two or more states are possible there
   pub opening-14 : (a : Answer) (left : List ℕ) → Opens table bytes a left → (said a ≡ refused 14)
       ↔ ((firstOf (openingChecks table bytes) ≡ 0) × Undecided (tableMeaning table) (lookaheadOf table) (tableMeaning table .initial) 0 [])

@@ -40,7 +40,8 @@ fn prepare_loaded(
     letters: &mut [u8],
 ) -> Prepared
     requires { ⌜ Held n m starts (now sets) ⌝ }
-    ensures { λ r. ⌜ Prepares (plain (successors n m starts (now (sets .entry)))) r (now (table .entry)) (now (table .exit)) (now (letters .entry)) (now (letters .exit)) ⌝ }
+    ensures { λ r. ⌜ Prepares (plain (successors n m starts (now (sets .entry)))) r (now (table .entry)) (now (table .exit))
+        (now (letters .entry)) (now (letters .exit)) ⌝ }
 {
     if table.len() < table::SETS_FROM + n * m {
         return Prepared::Refused(9);
@@ -58,7 +59,8 @@ fn prepare_loaded(
 
 // Preparing: the plan's table, with its look-ahead, into the lent numbers.
 pub fn prepare(plan: &[u8], table: &mut [u64], letters: &mut [u8]) -> Prepared
-    ensures { λ r. ⌜ Prepares (asked (now (plan .entry))) r (now (table .entry)) (now (table .exit)) (now (letters .entry)) (now (letters .exit)) ⌝ }
+    ensures { λ r. ⌜ Prepares (asked (now (plan .entry))) r (now (table .entry)) (now (table .exit)) (now (letters .entry))
+        (now (letters .exit)) ⌝ }
 {
     let mut sets = [0u64; semiautomata::MAX_SETS];
     let loaded = plan::load(plan, &mut sets);

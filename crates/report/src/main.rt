@@ -1,6 +1,6 @@
 // The report of document 01: plan bytes and then one byte a leg from standard input, the lines to standard output.
-// What is printed, and which call comes next, is proved in crates text and steps; here bytes are read and written. A read takes what is there, so
-// that a leg is reported as it arrives. What could not be read or written is said on standard error, and nothing more is written.
+// What is printed, and which call comes next, is proved in crates text and steps; here bytes are read and written. A read takes what is
+// there, so that a leg is reported as it arrives. What could not be read or written is said on standard error, and nothing more is written.
 ghost use Prim.Native.Nat.{_≤_};
 ghost use lib.ListN.{length};
 ghost use Rattle.steps.specs.Steps.{Readable};

@@ -84,8 +84,12 @@ fn no_plan(input: &[u8]) -> bool
 
 // What is printed of opening a record on a table, and whether the walk goes on.
 fn opened(table: &[u64], rec: &mut [u8], out: &mut [u8], at: usize) -> Printed
-    requires { ⌜ (unfit (now table) ≡ false) × Lookahead (tableMeaning (now table)) (lookaheadOf (now table)) × (recordSize ≤ length (now rec)) × (at + letterWidth ≤ length (now out)) ⌝ }
-    ensures { λ r. ⌜ Lays (AfterLookahead (tableMeaning (now (table .entry))) (lookaheadOf (now (table .entry)))) (now (out .entry)) at r (now (out .exit)) (now (table .entry)) (now (rec .exit)) × (now (rec .exit) ≡ openedOn (now (table .entry)) (now (rec .entry)) .state) × (isRefusal (openedOn (now (table .entry)) (now (rec .entry)) .reply) ≡ over r) ⌝ }
+    requires { ⌜ (unfit (now table) ≡ false) × Lookahead (tableMeaning (now table)) (lookaheadOf (now table))
+        × (recordSize ≤ length (now rec)) × (at + letterWidth ≤ length (now out)) ⌝ }
+    ensures { λ r. ⌜ Lays (AfterLookahead (tableMeaning (now (table .entry))) (lookaheadOf (now (table .entry)))) (now (out .entry)) at r
+        (now (out .exit)) (now (table .entry)) (now (rec .exit))
+        × (now (rec .exit) ≡ openedOn (now (table .entry)) (now (rec .entry)) .state)
+        × (isRefusal (openedOn (now (table .entry)) (now (rec .entry)) .reply) ≡ over r) ⌝ }
 {
     let answer = predictor::open(table, rec);
     let end = reply(out, at, answer);
@@ -99,8 +103,11 @@ fn opened(table: &[u64], rec: &mut [u8], out: &mut [u8], at: usize) -> Printed
 // Of a well-formed plan, the lines from the second on: line 2 takes 32 bytes at the most, opening's 24. With buffers of these sizes
 // preparing refuses no such plan.
 fn prepared(plan: &[u8], table: &mut [u64], rec: &mut [u8], out: &mut [u8], at: usize) -> Printed
-    requires { ⌜ WellFormed (now plan) × (tableSize ≤ length (now table)) × (recordSize ≤ length (now rec)) × (at + 56 ≤ length (now out)) ⌝ }
-    ensures { λ r. ⌜ Lays (AfterCounts (meaning (now (plan .entry)))) (now (out .entry)) at r (now (out .exit)) (now (table .exit)) (now (rec .exit)) × Leaves (meaning (now (plan .entry))) (now (table .entry)) (now (rec .entry)) (over r) (now (table .exit)) (now (rec .exit)) ⌝ }
+    requires { ⌜ WellFormed (now plan) × (tableSize ≤ length (now table)) × (recordSize ≤ length (now rec))
+        × (at + 56 ≤ length (now out)) ⌝ }
+    ensures { λ r. ⌜ Lays (AfterCounts (meaning (now (plan .entry)))) (now (out .entry)) at r (now (out .exit)) (now (table .exit))
+        (now (rec .exit)) × Leaves (meaning (now (plan .entry))) (now (table .entry)) (now (rec .entry)) (over r) (now (table .exit))
+        (now (rec .exit)) ⌝ }
 {
     let mut letters = [0u8; semiautomata::MAX_EVIDENCE];
     let prepared = prepare::prepare(plan, table, &mut letters);
@@ -116,7 +123,8 @@ fn prepared(plan: &[u8], table: &mut [u64], rec: &mut [u8], out: &mut [u8], at: 
 
 // The first lines of an input: of its plan, and of opening a walk on it.
 pub fn begin(input: &[u8], table: &mut [u64], rec: &mut [u8], out: &mut [u8]) -> Printed
-    ensures { λ r. ⌜ Begins (now (input .entry)) (now (table .entry)) (now (rec .entry)) r (now (table .exit)) (now (rec .exit)) (now (out .entry)) (now (out .exit)) ⌝ }
+    ensures { λ r. ⌜ Begins (now (input .entry)) (now (table .entry)) (now (rec .entry)) r (now (table .exit)) (now (rec .exit))
+        (now (out .entry)) (now (out .exit)) ⌝ }
 {
     if (table.len() < table::MAX_TABLE) | ((rec.len() < 2024) | (out.len() < 106)) {
         return Printed::Short;

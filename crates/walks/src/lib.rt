@@ -32,7 +32,8 @@ pub struct Gathered {
 // The step from a set by one letter: the lowest member is taken, what it leads to is joined, it is struck out, until none is left.
 pub fn gather(sets: &[u64], n: usize, m: usize, set: u64, letter: usize) -> Gathered
     requires { ⌜ Fit n m (now sets) × (set < 2 ^ n) × (letter < m) ⌝ }
-    ensures { λ r. ⌜ ((starts : ℕ) → r .set ≡ setOf n (step (successors n m starts (now (sets .entry))) (has set) letter)) × (r .rounds ≡ size n (has set)) ⌝ }
+    ensures { λ r. ⌜ ((starts : ℕ) → r .set ≡ setOf n (step (successors n m starts (now (sets .entry))) (has set) letter))
+        × (r .rounds ≡ size n (has set)) ⌝ }
 {
     let mut out: u64 = 0;
     let mut rounds: u32 = 0;
@@ -79,7 +80,8 @@ pub fn reach_by(sets: &[u64], n: usize, m: usize, set: u64, word: &[u8]) -> u64
 // The members of a set that can walk the word and then one letter more; each is tested, also where it is the only one.
 pub fn survivors_with(sets: &[u64], n: usize, m: usize, set: u64, word: &[u8], letter: usize) -> u64
     requires { ⌜ Fit n m (now sets) × (set < 2 ^ n) × Letters m (now word) × (letter < m) ⌝ }
-    ensures { λ r. ⌜ ((starts : ℕ) → r ≡ setOf n (survivors (successors n m starts (now (sets .entry))) (has set) (now (word .entry) ++ (letter ∷ [])))) ⌝ }
+    ensures { λ r. ⌜ ((starts : ℕ)
+        → r ≡ setOf n (survivors (successors n m starts (now (sets .entry))) (has set) (now (word .entry) ++ (letter ∷ [])))) ⌝ }
 {
     let mut out: u64 = 0;
     let mut rest = set;
@@ -110,7 +112,10 @@ pub fn survivors_of(sets: &[u64], n: usize, m: usize, set: u64, word: &[u8]) -> 
 // Stores what the first 0, 1, 2, .. letters lead to from a set that is not empty, as long as they lead somewhere; answers how many do.
 fn forward(sets: &[u64], n: usize, m: usize, set: u64, word: &[u8], out: &mut [u64]) -> usize
     requires { ⌜ Fit n m (now sets) × (set < 2 ^ n) × ¬ (set ≡ 0) × Letters m (now word) × (suc (length (now word)) ≤ length (now out)) ⌝ }
-    ensures { λ g. ⌜ (g ≡ longest (successors n m set (now (sets .entry))) (now (word .entry))) × Written n (take g (now (word .entry))) (λ i. reach (successors n m 0 (now (sets .entry))) (has set) (take i (take g (now (word .entry))))) (now (out .entry)) (now (out .exit)) ⌝ }
+    ensures { λ g. ⌜ (g ≡ longest (successors n m set (now (sets .entry))) (now (word .entry)))
+        × Written n (take g (now (word .entry)))
+        (λ i. reach (successors n m 0 (now (sets .entry))) (has set) (take i (take g (now (word .entry))))) (now (out .entry))
+        (now (out .exit)) ⌝ }
 {
     out[0] = set;
     let mut here = set;
@@ -129,8 +134,12 @@ fn forward(sets: &[u64], n: usize, m: usize, set: u64, word: &[u8], out: &mut [u
 
 // From such sets, from the last one back, those states from which the other letters can be walked.
 fn backward(sets: &[u64], n: usize, m: usize, set: u64, word: &[u8], out: &mut [u64])
-    requires { ⌜ Fit n m (now sets) × (set < 2 ^ n) × Letters m (now word) × (suc (length (now word)) ≤ length (now out)) × ((i : ℕ) → i ≤ length (now word) → getD (now out) i 0 ≡ setOf n (reach (successors n m 0 (now sets)) (has set) (take i (now word)))) ⌝ }
-    ensures { λ r. ⌜ ((starts : ℕ) → Written n (now (word .entry)) (possible (successors n m starts (now (sets .entry))) (has set) (now (word .entry))) (now (out .entry)) (now (out .exit))) ⌝ }
+    requires { ⌜ Fit n m (now sets) × (set < 2 ^ n) × Letters m (now word) × (suc (length (now word)) ≤ length (now out))
+        × ((i : ℕ) → i ≤ length (now word)
+        → getD (now out) i 0 ≡ setOf n (reach (successors n m 0 (now sets)) (has set) (take i (now word)))) ⌝ }
+    ensures { λ r. ⌜ ((starts : ℕ)
+        → Written n (now (word .entry)) (possible (successors n m starts (now (sets .entry))) (has set) (now (word .entry)))
+        (now (out .entry)) (now (out .exit))) ⌝ }
 {
     let mut i = word.len();
     while i > 0 {
@@ -142,7 +151,10 @@ fn backward(sets: &[u64], n: usize, m: usize, set: u64, word: &[u8], out: &mut [
 // The possible states at each position of the longest beginning that can be walked from a set that is not empty; answers its length.
 pub fn trace(sets: &[u64], n: usize, m: usize, set: u64, word: &[u8], out: &mut [u64]) -> usize
     requires { ⌜ Fit n m (now sets) × (set < 2 ^ n) × ¬ (set ≡ 0) × Letters m (now word) × (suc (length (now word)) ≤ length (now out)) ⌝ }
-    ensures { λ g. ⌜ (g ≡ longest (successors n m set (now (sets .entry))) (now (word .entry))) × ((starts : ℕ) → Written n (take g (now (word .entry))) (possible (successors n m starts (now (sets .entry))) (has set) (take g (now (word .entry)))) (now (out .entry)) (now (out .exit))) ⌝ }
+    ensures { λ g. ⌜ (g ≡ longest (successors n m set (now (sets .entry))) (now (word .entry)))
+        × ((starts : ℕ) → Written n (take g (now (word .entry)))
+        (possible (successors n m starts (now (sets .entry))) (has set) (take g (now (word .entry)))) (now (out .entry))
+        (now (out .exit))) ⌝ }
 {
     let g = forward(sets, n, m, set, word, out);
     backward(sets, n, m, set, &word[..g], out);
