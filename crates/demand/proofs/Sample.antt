@@ -13,7 +13,8 @@ use Rattle.streaming.specs.Streaming.{base, sound, soleAt, settle}
 use Rattle.plan.specs.Bytes.{meaning, planChecks, asked}
 use Rattle.plan.proofs.Refusals.{asked-proper}
 use Rattle.table.specs.Table.{unfit, laidOut}
-use Rattle.prepare.specs.Preparing.{refusalWith, prepareRefusal}
+use Rattle.plan.specs.Asked.{refusalWith}
+use Rattle.prepare.specs.Preparing.{prepareRefusal}
 use Rattle.records.specs.Bytes.{tidy}
 use Rattle.predictor.specs.declared.Answer.the-variants.{Refused, Resolved, Nothing}
 use Rattle.predictor.specs.Calls.{openedOn, fedOn, Opens, Feeds}

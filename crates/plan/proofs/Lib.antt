@@ -1,3 +1,4 @@
+pub mod Asked
 pub mod Tests
 pub mod Plan
 pub mod Entering

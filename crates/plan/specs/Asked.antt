@@ -1,11 +1,12 @@
 -- What a call asks of plan bytes: all that preparing, counting and checking a claim know of them.
 -- Assumes nothing.
 use Prim.Native.Nat.{ℕ}
+use mathlib.Core.Bool.{Bool}
 use mathlib.Core.Path.{_≡_}
-use mathlib.Core.List.{List}
+use mathlib.Core.List.{List, _++_}
 use Rattle.semiautomata.specs.Semiautomaton.{Semiautomaton}
 use Rattle.semiautomata.specs.Sizes.{Sized}
-use Rattle.refusals.specs.Checks.{Check, firstOf, Numbered}
+use Rattle.refusals.specs.Checks.{Check, firstOf, short, Numbered}
 
 -- Its checks in order, and the semiautomaton that is meant where none of them applies.
 pub record Asked : Type 0 where
@@ -15,6 +16,10 @@ pub record Asked : Type 0 where
 -- The number of the first check that applies, 0 if none does.
 unfoldable pub refusalOf : Asked → ℕ
 refusalOf A = firstOf (A .checks)
+
+-- The same of a call that looks at its lent buffers next: what is asked, and then 9.
+unfoldable pub refusalWith : Asked → Bool → ℕ
+refusalWith A applies = firstOf (A .checks ++ short applies)
 
 -- No check applies.
 abbrev pub Passes : Asked → Type 0

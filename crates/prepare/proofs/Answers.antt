@@ -12,14 +12,15 @@ use Rattle.semiautomata.specs.Predictability.{Lookahead}
 use Rattle.semiautomata.specs.Successors.{successors}
 use Rattle.semiautomata.proofs.Bound.{lookahead-bound}
 use Rattle.semiautomata.specs.Sizes.{Sized}
-use Rattle.plan.specs.Asked.{Asked, refusalOf, Passes, Proper}
+use Rattle.plan.specs.Asked.{Asked, refusalOf, refusalWith, Passes, Proper}
 use Rattle.plan.specs.Loading.{Holds}
 use Rattle.table.specs.Table.{laidOut}
 use Rattle.table.proofs.Form.{Reads, form-reads}
 use Rattle.prepare.specs.declared.Prepared.{Prepared}
-use Rattle.prepare.specs.Preparing.{shortTable, shortLetters, refusalWith, Prepares, CountsTo}
+use Rattle.prepare.specs.Preparing.{shortTable, shortLetters, Prepares, CountsTo}
 use Rattle.prepare.specs.inner.Steps.{Held, plain}
-use Rattle.prepare.proofs.Refusals.{square, refused-passing}
+use Rattle.plan.proofs.Asked.{refused-passing}
+use Rattle.prepare.proofs.Refusals.{square}
 
 -- a table that holds the form with the look-ahead is fit and means S
 pub sized-reads : {S : Semiautomaton} → Sized S → {k : ℕ} → Lookahead S k → (old : List ℕ) {table : List ℕ} → table ≡ laidOut S k old

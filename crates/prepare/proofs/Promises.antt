@@ -10,11 +10,11 @@ use Rattle.semiautomata.specs.Semiautomaton.{Semiautomaton}
 use Rattle.semiautomata.specs.Predictability.{Unpredictable}
 use Rattle.refusals.specs.Outcomes.{refused}
 use Rattle.semiautomata.proofs.Decide.{witness-unpredictable}
-use Rattle.plan.specs.Asked.{Asked, refusalOf, Proper}
+use Rattle.plan.specs.Asked.{Asked, refusalOf, refusalWith, Proper}
 use Rattle.lookahead.specs.declared.Evidence.{Evidence}
 use Rattle.prepare.specs.declared.Prepared.the-variants as prepared
-use Rattle.prepare.specs.Preparing.{refusalWith, countRefusal, prepareRefusal, Shown, LooksAhead, Prepares, CountsTo}
-use Rattle.prepare.proofs.Refusals.{refused-unread, not-15}
+use Rattle.prepare.specs.Preparing.{countRefusal, prepareRefusal, Shown, LooksAhead, Prepares, CountsTo}
+use Rattle.plan.proofs.Asked.{refused-unread, not-15}
 
 -- evidence shown tells that there is no look-ahead
 pub shown-never : {S : Semiautomaton} {e : Evidence} {old letters : List ℕ} → Shown S e old letters → Unpredictable S

@@ -25,7 +25,8 @@ use Rattle.claim.specs.Checking.{Checks}
 use Rattle.prepare.specs.Theorems.{Answers, Right, Theorems, Met}
 use Rattle.prepare.proofs.Answers.{sized-reads}
 use Rattle.prepare.proofs.Promises.{shown-never, count-refused-so, count-never-so, prepare-refused-so, prepare-never-so}
-use Rattle.prepare.proofs.Refusals.{clear-passes, count-clear, prepare-clear}
+use Rattle.plan.proofs.Asked.{clear-passes}
+use Rattle.prepare.proofs.Refusals.{count-clear, prepare-clear}
 
 module _ (A : Asked) (P : Proper A) where
   -- what an answer tells, whichever call gave it

@@ -4,15 +4,14 @@ use Prim.Native.Nat.{ℕ, _+_, _*_}
 use mathlib.Core.Bool.{Bool, _||_}
 use mathlib.Core.Logic.{_⊎_}
 use mathlib.Core.Path.{_≡_}
-use mathlib.Core.List.{List, [], _∷_, _++_}
+use mathlib.Core.List.{List}
 use lib.Dec.{ltb}
 use lib.ListN.{length, drop}
 use Rattle.semiautomata.specs.Semiautomaton.{Semiautomaton}
 use Rattle.semiautomata.specs.Predictability.{Lookahead}
 use Rattle.semiautomata.specs.Predictability as predictability
-use Rattle.refusals.specs.Checks.{Check, firstOf}
 use Rattle.refusals.specs.Outcomes.{Outcome, refused, answered}
-use Rattle.plan.specs.Asked.{Asked, refusalOf}
+use Rattle.plan.specs.Asked.{Asked, refusalOf, refusalWith}
 use Rattle.table.specs.Table.{setsFrom, laidOut}
 use Rattle.lookahead.specs.declared.Evidence.{Evidence}
 use Rattle.lookahead.specs.Answers.{TrueOf}
@@ -25,13 +24,6 @@ shortTable S size = ltb size (setsFrom + S .n * S .m)
 
 abbrev pub shortLetters : Semiautomaton → ℕ → Bool
 shortLetters S size = ltb size (S .n * S .n)
-
-abbrev pub short : Bool → List Check
-short applies = record { number = 9; applies = applies } ∷ []
-
--- What is asked, and then 9: the number of the first that applies, 0 if none does.
-unfoldable pub refusalWith : Asked → Bool → ℕ
-refusalWith A applies = firstOf (A .checks ++ short applies)
 
 -- The refusals of the count call and of preparing before 15, with buffers of these lengths.
 abbrev pub countRefusal : Asked → ℕ → ℕ

@@ -17,6 +17,10 @@ abbrev pub firstOf : List Check → ℕ
 firstOf [] = 0
 firstOf (c ∷ cs) = cond (c .applies) (c .number) (firstOf cs)
 
+-- 9: a lent buffer is too short.
+abbrev pub short : Bool → List Check
+short applies = record { number = 9; applies = applies } ∷ []
+
 -- x is a number from a to b
 abbrev pub within : ℕ → ℕ → ℕ → Bool
 within a b x = leb a x && leb x b

@@ -9,3 +9,7 @@ use Rattle.refusals.specs.declared.Group.the-variants.{Author, Caller, L
 
 abbrev pub groupOf : ℕ → Group
 groupOf x = cond (within 1 7 x || eqb x 15) Author (cond (within 8 10 x || eqb x 14) Caller (cond (within 11 13 x) Logger Nobody))
+
+-- The highest number of a refusal.
+abbrev pub lastRefusal : ℕ
+lastRefusal = 15

@@ -12,7 +12,7 @@ use Rattle.semiautomata.specs.Predictability.{Critical, member, named}
 use Rattle.semiautomata.specs.Selectors.{Survives, MinimalSelector, MaximalNonselector}
 use Rattle.refusals.specs.Checks.{Check, firstOf}
 use Rattle.refusals.specs.Outcomes.{Outcome, refused, answered, Gives}
-use Rattle.table.specs.Table.{lettersOf, tableMeaning, unfit}
+use Rattle.table.specs.Table.{lettersOf, tableMeaning, tableCheck}
 use Rattle.walks.specs.Walking.{letterOff}
 use Rattle.simulate.specs.declared.Verdict.{Verdict}
 use Rattle.simulate.specs.declared.Judged.{Judged}
@@ -25,7 +25,7 @@ unnamed none = true
 
 abbrev pub verdictChecks : List ℕ → ℕ → ℕ → List ℕ → List Check
 verdictChecks table q a word =
-    record { number = 8; applies = unfit table }
+    tableCheck table
     ∷ record { number = 12; applies = unnamed (named (tableMeaning table) q a) || letterOff (lettersOf table) word }
     ∷ []
 

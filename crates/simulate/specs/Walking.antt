@@ -14,13 +14,13 @@ use Rattle.refusals.specs.Outcomes.{Outcome, refused, answered, Gives}
 use Rattle.semiautomata.specs.Lists.{range}
 use Rattle.semiautomata.specs.Walks.{possible, longest}
 use Rattle.walks.specs.Walking.{letterOff}
-use Rattle.table.specs.Table.{statesOf, lettersOf, tableMeaning, unfit}
+use Rattle.table.specs.Table.{statesOf, lettersOf, tableMeaning, tableCheck}
 use Rattle.simulate.specs.declared.Walked.{Walked}
 use Rattle.simulate.specs.declared.Walked.the-variants.{Upto, Refused}
 
 abbrev pub walkChecks : List ℕ → List ℕ → ℕ → List Check
 walkChecks table word out =
-    record { number = 8; applies = unfit table }
+    tableCheck table
     ∷ record { number = 9; applies = ltb out (suc (length word)) }
     ∷ record { number = 12; applies = letterOff (lettersOf table) word }
     ∷ record { number = 13; applies = not (any (statesOf table) (tableMeaning table .initial)) }

@@ -9,7 +9,7 @@ use Rattle.bitset.specs.Sets.{any}
 use Rattle.bitset.specs.Numbers.{setOf}
 use Rattle.semiautomata.specs.Semiautomaton.{Semiautomaton}
 use Rattle.semiautomata.specs.Sizes.{maxStates, maxLetters, mostAhead, Sized}
-use Rattle.refusals.specs.Checks.{within}
+use Rattle.refusals.specs.Checks.{Check, within}
 use Rattle.semiautomata.specs.Lists.{range}
 use Rattle.semiautomata.specs.Successors.{successors}
 use Rattle.table.specs.declared.Head.{Head}
@@ -59,6 +59,9 @@ oneOf (b ∷ bs) = b || oneOf bs
 -- Refusal 8 applies.
 unfoldable pub unfit : List ℕ → Bool
 unfit table = oneOf (tableTests table)
+
+abbrev pub tableCheck : List ℕ → Check
+tableCheck table = record { number = 8; applies = unfit table }
 
 -- The head of a table: that it is fit, n, m, k and the set of initial states; zeros where refusal 8 applies.
 abbrev pub front : List ℕ → Head

@@ -1,5 +1,0 @@
-pub mod Rooms
-pub mod Evidence
-pub mod Endings
-pub mod Answering
-pub mod Theorems

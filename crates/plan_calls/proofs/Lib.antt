@@ -1,0 +1,4 @@
+pub mod Rooms
+pub mod Evidence
+pub mod Answering
+pub mod Theorems

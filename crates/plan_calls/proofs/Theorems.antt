@@ -1,0 +1,39 @@
+-- The theorems of specs/Theorems.antt.
+-- Assumes nothing.
+use Prim.Native.Nat.{ℕ}
+use mathlib.Core.Path.{refl}
+use mathlib.Core.Logic.{inl, inr}
+use native.Mathlib.Omega.{arith}
+use Rattle.refusals.specs.Outcomes.{Outcome, refused, answered}
+use Rattle.plan.specs.Asked.{Asked, refusalOf, Proper}
+use Rattle.plan.specs.Bytes.{asked}
+use Rattle.plan.proofs.Refusals.{asked-proper}
+use Rattle.prepare.specs.Preparing.{LooksAhead, asNumber, Draws}
+use Rattle.prepare.proofs.Answers.{small}
+use Rattle.numbers.specs.Numbers.{Number, value, refusal as refusal-number}
+use Rattle.numbers.proofs.Answering.{gives-number}
+use Rattle.plan_calls.specs.Promises.{claimOf}
+use Rattle.plan_calls.specs.Theorems.{Theorems}
+use Rattle.plan_calls.proofs.Answering.{asked-numbered, unread-number, reading-number, prepared-number, counted-number}
+use Rattle.plan_calls.proofs.Answering.{checked-number}
+
+drawn : (A : Asked) → Proper A → {r : ℕ} → Draws A r → Number r
+drawn A P d = rw (d .is) (go (d .outcome) (d .looks-ahead))
+  where
+    go : (o : Outcome ℕ) → LooksAhead (refusalOf A) (A .means) o → Number (asNumber o)
+    go (refused r) (inl (e, n)) = unread-number A P e n
+    go (refused r) (inr (_, e, _)) = refusal-number 15 (omega arith) (omega arith) (rw e)
+    go (answered k) (w, l) = let h = small (P .sized w) k l in value (omega arith)
+
+pub theorems : (r : ℕ) → Theorems r
+theorems r = record {
+  reading = λ plan old counts. gives-number (asked-numbered (asked plan) (asked-proper plan)) (reading-number plan);
+  preparing = λ plan old table old′ letters old″ evidence.
+      gives-number (asked-numbered (asked plan) (asked-proper plan))
+      (prepared-number (asked plan) (asked-proper plan) old table old′ letters);
+  counting = λ plan old letters old′ evidence.
+      gives-number (asked-numbered (asked plan) (asked-proper plan)) (counted-number (asked plan) (asked-proper plan) old letters);
+  drawing = λ plan. drawn (asked plan) (asked-proper plan);
+  checking = λ plan claim letters p.
+      rw (p .passed .answered) (checked-number (asked plan) (asked-proper plan) (claimOf claim) letters (p .answer) (p .meets));
+}

@@ -1,0 +1,17 @@
+-- What follows of the promises on plans for C: whatever a call is lent, it answers a value below 65,536, or 65,536 plus the number of a
+-- refusal. proofs/Theorems.antt has the proofs.
+-- Assumes nothing.
+use Prim.Native.Nat.{ℕ}
+use mathlib.Core.List.{List}
+use Rattle.plan.specs.Bytes.{asked}
+use Rattle.prepare.specs.Preparing.{Draws}
+use Rattle.numbers.specs.Numbers.{Number}
+use Rattle.plan_calls.specs.Promises.{PassesReading, PassesPrepared, PassesCount, PassesCheck}
+
+pub record Theorems (r : ℕ) : Type 0 where
+  pub reading : (plan old counts : List ℕ) → PassesReading plan r old counts → Number r
+  pub preparing : (plan old table old′ letters old″ evidence : List ℕ)
+      → PassesPrepared (asked plan) r old table old′ letters old″ evidence → Number r
+  pub counting : (plan old letters old′ evidence : List ℕ) → PassesCount (asked plan) r old letters old′ evidence → Number r
+  pub drawing : (plan : List ℕ) → Draws (asked plan) r → Number r
+  pub checking : (plan claim letters : List ℕ) → PassesCheck (asked plan) claim letters r → Number r

@@ -1,0 +1,140 @@
+// The calls on plan bytes for C, over plain numbers and lent slices: reading, preparing, the count call, the drawing program's entry and
+// the check of a claim. Where a slice for further values has too few places for the most that a call may have to put there, the call is
+// refused with 9 before anything is written.
+ghost use mathlib.Core.Path.{_≡_};
+ghost use Prim.Native.Nat.{_≤_};
+ghost use lib.ListN.{length, getD};
+ghost use Rattle.plan.specs.Bytes.{planChecks, asked};
+ghost use Rattle.prepare.specs.Preparing.{Draws};
+ghost use Rattle.numbers.specs.Numbers.{Passed, noRoom};
+ghost use Rattle.plan_calls.specs.Promises.{ofPrepared, claimOf, PassesReading, PassesPrepared, PassesCount, PassesCheck};
+ghost use Rattle.plan_calls.specs.inner.Sizes.{Fit32};
+use claim::Checked;
+use lookahead::Evidence;
+use numbers::REFUSED;
+use plan::Reading;
+use prepare::Prepared;
+
+// Room for the numbers of evidence.
+const EVIDENCE: usize = 6;
+
+// A call on plan bytes that has no room for its further values: the reader's refusal, or 9.
+fn no_room(plan: &[u8]) -> u32
+    ensures { λ r. ⌜ r ≡ noRoom (planChecks (now (plan .entry))) ⌝ }
+{
+    let reading = plan::read(plan);
+    match reading {
+        Reading::Refused(r) => REFUSED + r as u32,
+        Reading::Counts {
+            n: _,
+            m: _,
+            p: _,
+            e: _,
+        } => REFUSED + 9,
+    }
+}
+
+// Reading: n; further m, p and e.
+pub fn read(plan: &[u8], counts: &mut [u32]) -> u32
+    ensures { λ r. ⌜ PassesReading (now (plan .entry)) r (now (counts .entry)) (now (counts .exit)) ⌝ }
+{
+    if counts.len() < 3 {
+        return no_room(plan);
+    }
+    let reading = plan::read(plan);
+    match reading {
+        Reading::Refused(r) => REFUSED + r as u32,
+        Reading::Counts { n, m, p, e } => {
+            slices::copy_32(counts, &[m as u32, p as u32, e as u32]);
+            n as u32
+        }
+    }
+}
+
+// What preparing and the count call answer, in numbers.
+fn pass_prepared(prepared: Prepared, evidence: &mut [u32]) -> u32
+    requires { ⌜ Fit32 prepared × (6 ≤ length (now evidence)) ⌝ }
+    ensures { λ r. ⌜ Passed (ofPrepared prepared) r (now (evidence .entry)) (now (evidence .exit)) ⌝ }
+{
+    match prepared {
+        Prepared::Ready(k) => k as u32,
+        Prepared::Refused(r) => REFUSED + r as u32,
+        Prepared::Unpredictable(e) => {
+            slices::copy_32(
+                evidence,
+                &[e.state, e.letter, e.low, e.high, e.stem, e.cycle],
+            );
+            REFUSED + 15
+        }
+    }
+}
+
+// Preparing: k; further, under 15, the six numbers of the evidence.
+pub fn prepare(plan: &[u8], table: &mut [u64], letters: &mut [u8], evidence: &mut [u32]) -> u32
+    ensures { λ r. ⌜ PassesPrepared (asked (now (plan .entry))) r (now (table .entry)) (now (table .exit)) (now (letters .entry))
+        (now (letters .exit)) (now (evidence .entry)) (now (evidence .exit)) ⌝ }
+{
+    if evidence.len() < EVIDENCE {
+        return no_room(plan);
+    }
+    let prepared = prepare::prepare(plan, table, letters);
+    pass_prepared(prepared, evidence)
+}
+
+// The count call, which answers as preparing does.
+pub fn look_ahead(plan: &[u8], letters: &mut [u8], evidence: &mut [u32]) -> u32
+    ensures { λ r. ⌜ PassesCount (asked (now (plan .entry))) r (now (letters .entry)) (now (letters .exit)) (now (evidence .entry))
+        (now (evidence .exit)) ⌝ }
+{
+    if evidence.len() < EVIDENCE {
+        return no_room(plan);
+    }
+    let counted = prepare::count(plan, letters);
+    pass_prepared(counted, evidence)
+}
+
+// The drawing program's entry: the look-ahead, or the refusal, with no lent buffer.
+pub fn count(plan: &[u8]) -> u32
+    ensures { λ r. ⌜ Draws (asked (now (plan .entry))) r ⌝ }
+{
+    let mut letters = [0u8; semiautomata::MAX_EVIDENCE];
+    let counted = prepare::count(plan, &mut letters);
+    match counted {
+        Prepared::Ready(k) => k as u32,
+        Prepared::Refused(r) => REFUSED + r as u32,
+        Prepared::Unpredictable(_) => REFUSED + 15,
+    }
+}
+
+// The number at a place of a claim; 0 where it has too few.
+fn number_at(claim: &[u32], i: usize) -> u32
+    ensures { λ r. ⌜ r ≡ getD (now (claim .entry)) i 0 ⌝ }
+{
+    if i < claim.len() { claim[i] } else { 0 }
+}
+
+// The claim that six numbers make. Fewer make one with no cycle, which is not true.
+fn claim_of(claim: &[u32]) -> Evidence
+    ensures { λ r. ⌜ r ≡ claimOf (now (claim .entry)) ⌝ }
+{
+    Evidence {
+        state: number_at(claim, 0),
+        letter: number_at(claim, 1),
+        low: number_at(claim, 2),
+        high: number_at(claim, 3),
+        stem: number_at(claim, 4),
+        cycle: number_at(claim, 5),
+    }
+}
+
+// The check of a claim: 1 for yes, 0 for no.
+pub fn check(plan: &[u8], claim: &[u32], letters: &[u8]) -> u32
+    ensures { λ r. ⌜ PassesCheck (asked (now (plan .entry))) (now (claim .entry)) (now (letters .entry)) r ⌝ }
+{
+    let checked = claim::check(plan, claim_of(claim), letters);
+    match checked {
+        Checked::Yes => 1,
+        Checked::No => 0,
+        Checked::Refused(r) => REFUSED + r as u32,
+    }
+}
