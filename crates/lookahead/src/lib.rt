@@ -31,7 +31,7 @@ pub fn look_ahead(sets: &[u64], n: usize, m: usize, starts: u64, letters: &mut [
     ensures { λ r. ⌜ Answers (successors n m starts (now (sets .entry))) r (now (letters .entry)) (now (letters .exit)) ⌝ }
 {
     let rival = rivals::rivals(sets, n, m, starts);
-    let found = pairs::levels::settle(sets, n, m, &rival);
+    let found = pairs::settle(sets, n, m, &rival);
     if !found.stable {
         return Found::Lookahead(found.rounds);
     }

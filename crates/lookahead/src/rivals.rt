@@ -10,7 +10,7 @@ fn pair_set(rows: &mut [u64; 64], set: u64)
     ensures { λ r. ⌜ Matched set (now (rows .entry)) (now (rows .exit)) ⌝ }
 {
     if set != 0 && set & (set - 1) != 0 {
-        pairs::rows::pair_up(rows, set, set);
+        rows::pair_up(rows, set, set);
     }
 }
 

@@ -72,7 +72,7 @@ pub fn evidence(
     let mut i: usize = 0;
     while seen[at] == 0 {
         seen[at] = (i + 1) as u16;
-        let step = pairs::levels::lead(sets, n, m, live, x, y);
+        let step = pairs::lead(sets, n, m, live, x, y);
         letters[i] = step.letter as u8;
         x = step.first;
         y = step.second;

@@ -1,7 +1,5 @@
-pub mod Places
 pub mod Pairing
-pub mod Turning
-pub mod Searching
+pub mod Leading
 pub mod Striking
 pub mod Rounds
 pub mod Starts

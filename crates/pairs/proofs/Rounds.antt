@@ -23,12 +23,12 @@ use Rattle.semiautomata.proofs.Shares.{share-swap, share-shorter}
 use Rattle.semiautomata.proofs.Levels.{with-and, live-in, live-out, live-fixed}
 use Rattle.semiautomata.proofs.Lassos.{share-ever, live-ever}
 use Rattle.semiautomata.proofs.Successors.{edge-out, edge-is, fit-within}
-use Rattle.pairs.specs.Rows.{pair, Common}
+use Rattle.rows.specs.Rows.{pair, Without, Union, Common, Apart}
+use Rattle.rows.specs.Turned.{after, Blank, Turned}
+use Rattle.rows.proofs.Places.{zeros-at}
 use Rattle.pairs.specs.Sharing.{leads, Sharing, Lasting}
-use Rattle.pairs.specs.inner.Rows.{after, Fits, Paired, Turned, Without, Union, Apart, Blank}
-use Rattle.pairs.specs.inner.Rounds.{Level, dying, falls, Struck, Waking}
-use Rattle.pairs.proofs.Places.{zeros-at}
-use Rattle.pairs.proofs.Searching.{leads-in, leads-out}
+use Rattle.pairs.specs.inner.Rounds.{Fits, Level, dying, falls, Struck, Paired, Waking}
+use Rattle.pairs.proofs.Leading.{leads-in, leads-out}
 
 -- the struck pairs are those that end at the next level; `gone` is 0 where there is none
 pub record Ends (S : Semiautomaton) (j : ℕ) (struck : List ℕ) (gone : ℕ) : Type 0 where

@@ -1,33 +1,32 @@
 -- Striking the pairs that are led on to no live pair, row by row, and waking the pairs that lead to them.
 -- Assumes nothing.
-use mathlib.Core.Bool.{Bool, true, false, not, xor, _&&_, _||_, false≢true, and-true, and-false}
-use mathlib.Core.Path.{_≡_, refl, sym, ap, _∙_}
+use mathlib.Core.Bool.{true, not, _&&_, false≢true, and-true, and-false}
+use mathlib.Core.Path.{_≡_, refl, sym, _∙_}
 use mathlib.Core.Logic.{inl, inr}
 use mathlib.Core.List.{List}
 use Prim.Native.Nat.{ℕ, _+_, _*_, _%_, _^_, _≤_, _<_}
 use native.Mathlib.Decide.{decLt}
 use native.Mathlib.Numerals.{add-one}
 use native.Mathlib.Omega.{arith}
-use lib.Bits.{bitAnd, bitOr, bitXor}
+use lib.Bits.{bitAnd, bitOr}
 use lib.Dec.{ltb, eqb}
-use lib.ListN.{length, getD, replicate, set}
-use lib.Seq.{getD-set-same, getD-set-other}
+use lib.ListN.{getD, replicate}
 use borrow.Author.Count.{below-more}
 use borrow.Author.Tests.{eqb-true, eq-eqb, lt-ltb, le-ltb, le-leb, lt-leb}
 use Rattle.bitset.specs.Sets.{any}
 use Rattle.bitset.specs.Numbers.{has, setOf}
 use Rattle.bitset.proofs.Tests.{and-in, and-out, or-left, or-right, or-cases}
-use Rattle.bitset.proofs.Below.{any-in, any-cong}
-use Rattle.bitset.proofs.Bits.{has-or, has-and, has-xor, has-empty, has-shl, has-setOf, has-lt, fits}
+use Rattle.bitset.proofs.Below.{any-in}
+use Rattle.bitset.proofs.Bits.{has-or, has-and, has-empty, has-shl, has-setOf, has-lt, fits}
 use Rattle.semiautomata.specs.Semiautomaton.{Semiautomaton}
 use Rattle.semiautomata.specs.Walks.{step}
 use Rattle.semiautomata.specs.Successors.{successors, Fit}
 use Rattle.semiautomata.proofs.Successors.{edge-is}
-use Rattle.pairs.specs.Rows.{pair, Put}
+use Rattle.rows.specs.Rows.{pair, Put}
+use Rattle.rows.specs.Turned.{after}
+use Rattle.rows.proofs.Places.{place-fits, zeros-at}
 use Rattle.pairs.specs.Sharing.{leads}
-use Rattle.pairs.specs.inner.Rows.{after, Paired, Without, Union, Fits}
-use Rattle.pairs.specs.inner.Rounds.{falls, Struck, Waking}
-use Rattle.pairs.proofs.Places.{place-fits, zeros-at}
+use Rattle.pairs.specs.inner.Rounds.{Fits, falls, Struck, Paired, Waking}
 
 -- WHAT A ROUND STRIKES
 
@@ -94,33 +93,6 @@ module _ (S : Semiautomaton) (live look : List ℕ) where
 
       at : (x : ℕ) → has ((1 * 2 ^ s) % 2 ^ 64) x ≡ true → (t : ℕ) → has out t ≡ true → (x < s + 1) × (falls S live look x t ≡ true)
       at x b t o = let z = eqb-true s x (sym (bit x) ∙ b) in (omega arith, rw (← z) (sym (is t) ∙ o))
-
--- the struck pairs are taken out, and what is left is joined
-pub without-first : {old struck new : List ℕ} → Without old struck new 0
-without-first = record { is = λ s t h. absurd (omega arith) }
-
-pub union-first : {new : List ℕ} → Union new 0 0
-unfolding any
-union-first = record { is = λ t. has-empty t }
-
-module _ {new : List ℕ} {s : ℕ} (room : s < length new) where
-  pub without-next : {old struck : List ℕ} → Without old struck new s
-      → Without old struck (set new s (bitXor (getD old s 0) (getD struck s 0))) (s + 1)
-  without-next {old} {struck} k = record {
-    is = λ x t.
-        let v = bitXor (getD old s 0) (getD struck s 0) in
-        below-more (λ (x : ℕ). pair (set new s v) x t ≡ xor (pair old x t) (pair struck x t)) s
-        (λ x h. rw (getD-set-other new s x _ 0 (omega arith)) (k .is x t h))
-        (rw (getD-set-same new s _ 0 room) (has-xor _ _ t)) x;
-  }
-
-  pub union-next : {all : ℕ} (v : ℕ) → Union new all s → Union (set new s v) (bitOr all v) (s + 1)
-  unfolding any
-  union-next {all} v k = record {
-    is = λ t.
-        let kept = any-cong s (λ x. pair new x t) (λ x. pair (set new s v) x t) (λ x h. rw (getD-set-other new s x v 0 (omega arith))) in
-        rw (add-one, has-or, k .is t, getD-set-same new s v 0 room) (ap (λ (b : Bool). b || has v t) kept);
-  }
 
 -- WHAT IT WAKES
 

@@ -8,9 +8,9 @@ use mathlib.Core.List.{List}
 use Rattle.bitset.specs.Sets.{any}
 use Rattle.semiautomata.specs.Semiautomaton.{Semiautomaton}
 use Rattle.semiautomata.specs.Predictability.{Share}
-use Rattle.pairs.specs.Rows.{pair, Common}
-use Rattle.pairs.specs.declared.levels.Step.{Step}
-use Rattle.pairs.specs.declared.levels.Levels.{Levels}
+use Rattle.rows.specs.Rows.{pair, Common}
+use Rattle.pairs.specs.declared.Step.{Step}
+use Rattle.pairs.specs.declared.Levels.{Levels}
 
 -- The letter a leads s and t on to r and u, a pair of the rows; some letter leads them on to some such pair.
 pub record Leads (S : Semiautomaton) (rows : List ℕ) (s t a r u : ℕ) : Type 0 where

@@ -1,4 +1,205 @@
-// Pairs of states of successor sets: which of them share words, by rows of bits and round by round. Which pairs matter comes in as rows.
-pub mod rows; // rows.rt: rows of pairs of states
-pub mod levels; // levels.rt: the levels of live pairs, round by round
-mod parts; // parts.rt: what these are made of
+// The levels of live pairs: which pairs of states of successor sets share a word of 0 letters, of 1, of 2, until no rivals are among them
+// or a round strikes none. The first round goes letter by letter; a later one reads the level before, and looks again only at pairs that
+// a letter leads to a pair struck in the last one. Which pairs are rivals comes in as rows.
+ghost use mathlib.Core.Bool.{not, _&&_};
+ghost use mathlib.Core.Path.{_≡_};
+ghost use Prim.Native.Nat.{_^_, _<_};
+ghost use lib.Dec.{ltb};
+ghost use lib.ListN.{length};
+ghost use Rattle.bitset.specs.Numbers.{has, setOf};
+ghost use Rattle.semiautomata.specs.Successors.{successors, Fit};
+ghost use Rattle.pairs.specs.Sharing.{leads, Led, Settled};
+ghost use Rattle.pairs.specs.inner.Rounds.{Fits, Level, Struck, Woken, Waking};
+
+// A letter that leads two states on to a pair of the rows, and that pair.
+pub struct Step {
+    pub found: bool,
+    pub letter: usize,
+    pub first: usize,
+    pub second: usize,
+}
+
+pub fn lead(sets: &[u64], n: usize, m: usize, rows: &[u64; 64], s: usize, t: usize) -> Step
+    requires { ⌜ Fit n m (now sets) × (s < n) × (t < n) ⌝ }
+    ensures { λ r. ⌜ Led (successors n m 0 (now (sets .entry))) (now (rows .entry)) s t r ⌝ }
+{
+    let mut step = Step {
+        found: false,
+        letter: 0,
+        first: 0,
+        second: 0,
+    };
+    'letters: for a in 0..m {
+        let from_s = sets[s * m + a];
+        let from_t = sets[t * m + a];
+        let mut firsts = from_s;
+        'firsts: while firsts != 0 {
+            let r = u64::trailing_zeros(firsts) as usize;
+            let row = rows[r];
+            // only states that live with r
+            let mut seconds = from_t & row;
+            'seconds: while seconds != 0 {
+                let u = u64::trailing_zeros(seconds) as usize;
+                if (row >> u) & 1 == 1 {
+                    step = Step {
+                        found: true,
+                        letter: a,
+                        first: r,
+                        second: u,
+                    };
+                    break 'letters;
+                }
+                seconds &= seconds - 1;
+            }
+            firsts &= firsts - 1;
+        }
+    }
+    step
+}
+
+// The pairs that share a letter: some letter leads both states on. `all` has every state.
+fn share_letter(sets: &[u64], n: usize, m: usize, all: u64) -> [u64; 64]
+    requires { ⌜ Fit n m (now sets) × (all ≡ setOf 64 (λ t. ltb t n)) ⌝ }
+    ensures { λ z. ⌜ Level (successors n m 0 (now (sets .entry))) 1 z × Fits n z ⌝ }
+{
+    let mut live = [0u64; 64];
+    for a in 0..m {
+        let able = walks::back(sets, n, m, all, a, all);
+        rows::pair_up(&mut live, able, able);
+    }
+    live
+}
+
+// The states of `work` that share no longer word with s.
+fn strike_row(sets: &[u64], n: usize, m: usize, live: &[u64; 64], s: usize, work: u64) -> u64
+    requires { ⌜ Fit n m (now sets) × (s < n) × (work < 2 ^ n) ⌝ }
+    ensures { λ r. ⌜ r ≡ setOf n (λ t. has work t && not (leads (successors n m 0 (now (sets .entry))) (now (live .entry)) s t)) ⌝ }
+{
+    let mut out: u64 = 0;
+    let mut rest = work;
+    while rest != 0 {
+        let t = u64::trailing_zeros(rest) as usize;
+        let step = lead(sets, n, m, live, s, t);
+        if !step.found {
+            out |= 1 << t;
+        }
+        rest &= rest - 1;
+    }
+    out
+}
+
+// The pairs that a round strikes, and the lower states of them.
+pub struct Round {
+    pub struck: [u64; 64],
+    pub gone: u64,
+}
+
+// A pair is tested with the higher state first, and struck in both orders.
+fn strike(sets: &[u64], n: usize, m: usize, live: &[u64; 64], look: &[u64; 64]) -> Round
+    requires { ⌜ Fit n m (now sets) ⌝ }
+    ensures { λ r. ⌜ Struck (successors n m 0 (now (sets .entry))) (now (live .entry)) (now (look .entry)) (r .struck) (r .gone) n ⌝ }
+{
+    let mut struck = [0u64; 64];
+    let mut gone: u64 = 0;
+    for s in 0..n {
+        let work = look[s] & live[s] & bitset::mask(s as u32 + 1);
+        let out = strike_row(sets, n, m, live, s, work);
+        rows::pair_up(&mut struck, out, 1 << s);
+        rows::pair_up(&mut struck, 1 << s, out);
+        gone |= out;
+    }
+    Round { struck, gone }
+}
+
+// Every pair that some letter leads to s and a state of the set is looked at.
+fn wake_row(back: &[u64], n: usize, m: usize, s: usize, set: u64, look: &mut [u64; 64])
+    requires { ⌜ Fit n m (now back) × (s < n) × (set < 2 ^ n) × (length (now look) ≡ 64) ⌝ }
+    ensures { λ z. ⌜ Woken n m (now (back .entry)) s set (now (look .entry)) (now (look .exit)) ⌝ }
+{
+    for a in 0..m {
+        let firsts = back[s * m + a];
+        if firsts != 0 {
+            let seconds = walks::gather(back, n, m, set, a);
+            rows::pair_up(look, firsts, seconds.set);
+        }
+    }
+}
+
+// Every pair that some letter leads to a struck one is looked at; `back` is the table turned round.
+fn wake(back: &[u64], n: usize, m: usize, struck: &[u64; 64]) -> [u64; 64]
+    requires { ⌜ Fit n m (now back) × Fits n (now struck) ⌝ }
+    ensures { λ z. ⌜ Waking m (now (back .entry)) (now (struck .entry)) z n ⌝ }
+{
+    let mut look = [0u64; 64];
+    for s in 0..n {
+        let set = struck[s];
+        if set != 0 {
+            wake_row(back, n, m, s, set, &mut look);
+        }
+    }
+    look
+}
+
+// What the rounds come to: after `rounds` of them no two rivals share a word of as many letters, or no round strikes one more pair, and
+// low and high are two rivals among the pairs that live for ever.
+pub struct Levels {
+    pub stable: bool,
+    pub rounds: usize,
+    pub live: [u64; 64],
+    pub low: usize,
+    pub high: usize,
+}
+
+pub fn settle(sets: &[u64], n: usize, m: usize, rival: &[u64; 64]) -> Levels
+    requires { ⌜ Fit n m (now sets) ⌝ }
+    ensures { λ r. ⌜ Settled (successors n m 0 (now (sets .entry))) (now (rival .entry)) r ⌝ }
+{
+    let all = bitset::mask(n as u32);
+    let mut live = [all; 64];
+    let mut rounds: usize = 0;
+    let mut two = rows::common(n, &live, rival);
+    if !two.found {
+        return Levels {
+            stable: false,
+            rounds,
+            live,
+            low: 0,
+            high: 0,
+        };
+    }
+    let shared = share_letter(sets, n, m, all);
+    let first = rows::without(n, &live, &shared);
+    let mut struck = first.rows;
+    let mut gone = first.any;
+    let mut back = [0u64; semiautomata::MAX_SETS];
+    while gone != 0 {
+        let left = rows::without(n, &live, &struck);
+        live = left.rows;
+        rounds += 1;
+        two = rows::common(n, &live, rival);
+        if !two.found {
+            return Levels {
+                stable: false,
+                rounds,
+                live,
+                low: 0,
+                high: 0,
+            };
+        }
+        // only a second round needs it
+        if rounds == 1 {
+            rows::turn(&mut back, sets, n, m);
+        }
+        let look = wake(&back, n, m, &struck);
+        let round = strike(sets, n, m, &live, &look);
+        struck = round.struck;
+        gone = round.gone;
+    }
+    Levels {
+        stable: true,
+        rounds,
+        live,
+        low: two.low,
+        high: two.high,
+    }
+}

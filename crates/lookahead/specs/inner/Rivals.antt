@@ -10,7 +10,7 @@ use Rattle.bitset.specs.Numbers.{has}
 use Rattle.semiautomata.specs.Semiautomaton.{Semiautomaton}
 use Rattle.semiautomata.specs.Predictability.{Critical, member, named, Counts}
 use Rattle.semiautomata.specs.Successors.{successors}
-use Rattle.pairs.specs.Rows.{pair}
+use Rattle.rows.specs.Rows.{pair}
 use Rattle.pairs.specs.Sharing.{Lasting}
 
 -- some critical set that counts has both s and t

@@ -1,20 +1,25 @@
 -- What the functions of a round promise each other.
 -- Assumes nothing.
-use Prim.Native.Nat.{ℕ, _<_}
-use mathlib.Core.Bool.{Bool, true, not, _&&_}
+use Prim.Native.Nat.{ℕ, _^_, _<_}
+use mathlib.Core.Bool.{Bool, true, not, _&&_, _||_}
 use mathlib.Core.Logic.{_⊎_}
 use mathlib.Core.Path.{_≡_}
 use mathlib.Core.List.{List}
 use lib.Dec.{leb}
+use lib.ListN.{length, getD}
 use Rattle.bitset.specs.Sets.{any}
 use Rattle.bitset.specs.Numbers.{has, setOf}
 use Rattle.semiautomata.specs.Semiautomaton.{Semiautomaton}
 use Rattle.semiautomata.specs.Walks.{step}
 use Rattle.semiautomata.specs.Levels.{live}
 use Rattle.semiautomata.specs.Successors.{successors}
-use Rattle.pairs.specs.Rows.{pair}
+use Rattle.rows.specs.Rows.{pair}
+use Rattle.rows.specs.Turned.{after}
 use Rattle.pairs.specs.Sharing.{leads}
-use Rattle.pairs.specs.inner.Rows.{after, Paired}
+
+-- no row has a state n or higher
+abbrev pub Fits : ℕ → List ℕ → Type 0
+Fits n rows = (s : ℕ) → s < n → getD rows s 0 < 2 ^ n
 
 -- the rows hold the pairs that are live for j letters
 pub record Level (S : Semiautomaton) (j : ℕ) (rows : List ℕ) : Type 0 where
@@ -34,6 +39,11 @@ pub record Struck (S : Semiautomaton) (alive look struck : List ℕ) (gone k : �
   pub only : (s t : ℕ) → pair struck s t ≡ true
       → ((s < k) × (falls S alive look s t ≡ true)) ⊎ ((t < k) × (falls S alive look t s ≡ true))
   pub some : (t : ℕ) → has gone t ≡ any k (λ s. falls S alive look s t)
+
+-- the sets F i are paired with the sets G i, for i below k
+pub record Paired (old new : List ℕ) (F G : ℕ → ℕ) (k : ℕ) : Type 0 where
+  pub long : length new ≡ length old
+  pub is : (s t : ℕ) → pair new s t ≡ (pair old s t || any k (λ i. has (F i) s && has (G i) t))
 
 -- each pair that some letter leads to s and a state of the set is looked at too
 abbrev pub Woken : (n m : ℕ) (back : List ℕ) (s set : ℕ) (old new : List ℕ) → Type 0

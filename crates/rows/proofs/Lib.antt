@@ -1,0 +1,5 @@
+pub mod Places
+pub mod Joining
+pub mod Turning
+pub mod Removing
+pub mod Searching
