@@ -2,8 +2,8 @@
 // passes the check; then what document 01 says of that plan beside.
 // `stdout` is written from document 01; crates/demand proves the same of the definitions.
 use claim::Checked;
+use deciding::Answer;
 use lookahead::Evidence;
-use predictor::Answer;
 use prepare::Prepared;
 use simulate::Judged;
 use simulate::Walked;

@@ -11,8 +11,8 @@ use Rattle.streaming.specs.PlainWalk.{plainFeed}
 use Rattle.streaming.specs.Streaming.{Rec, feed}
 use Rattle.streaming.proofs.Streaming.{Follows, feed-agrees}
 use Rattle.table.specs.Table.{lookaheadOf, tableMeaning, unfit}
-use Rattle.predictor.specs.declared.Answer.{Answer}
-use Rattle.predictor.specs.Replies.{said}
+use Rattle.deciding.specs.declared.Answer.{Answer}
+use Rattle.deciding.specs.Replies.{said}
 use Rattle.predictor.specs.Calls.{written}
 use Rattle.predictor.proofs.Following.{Holds, written-holds, feed-keeps, fed-is, follows-small}
 use Rattle.demand.specs.Demand.{Feeding, none, more}

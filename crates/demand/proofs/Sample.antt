@@ -16,7 +16,7 @@ use Rattle.table.specs.Table.{unfit, laidOut}
 use Rattle.plan.specs.Asked.{refusalWith}
 use Rattle.prepare.specs.Preparing.{prepareRefusal}
 use Rattle.records.specs.Bytes.{tidy}
-use Rattle.predictor.specs.declared.Answer.the-variants.{Refused, Resolved, Nothing}
+use Rattle.deciding.specs.declared.Answer.the-variants.{Refused, Resolved, Nothing}
 use Rattle.predictor.specs.Calls.{openedOn, fedOn, Opens, Feeds}
 use Rattle.demand.specs.Demand.{Made, none, more, Walk}
 use Rattle.demand.specs.Sample.{planA, tableA, offered, answers, Sample}

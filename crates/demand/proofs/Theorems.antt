@@ -28,9 +28,9 @@ use Rattle.prepare.proofs.Theorems.{table-read, theorems as preparing-theorems}
 use Rattle.table.specs.Table.{lookaheadOf, tableMeaning, unfit}
 use Rattle.table.proofs.Fitness.{fitting, lookahead-le}
 use Rattle.table.proofs.Form.{Reads}
-use Rattle.predictor.specs.declared.Answer.{Answer}
+use Rattle.deciding.specs.declared.Answer.{Answer}
 use Rattle.records.specs.Bytes.{heldFrom, decode, tidy}
-use Rattle.predictor.specs.Replies.{said}
+use Rattle.deciding.specs.Replies.{said}
 use Rattle.predictor.specs.Calls.{letterChecks, written, openedOn, fedOn, Opens}
 use Rattle.demand.specs.Demand.{Made, Walk, Taken, Theorems, Met, DemandMet}
 use Rattle.predictor.proofs.Following.{Holds, Small, encode-holds, follows-small, opened-is}

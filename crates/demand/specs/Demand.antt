@@ -20,9 +20,9 @@ use Rattle.prepare.specs.declared.Prepared.{Prepared}
 use Rattle.prepare.specs.declared.Prepared.the-variants.{Ready, Unpredictable}
 use Rattle.prepare.specs.Preparing.{Prepares, CountsTo}
 use Rattle.prepare.specs.Theorems.{Answers, Right}
-use Rattle.predictor.specs.declared.Answer.{Answer}
+use Rattle.deciding.specs.declared.Answer.{Answer}
 use Rattle.records.specs.Bytes.{heldFrom}
-use Rattle.predictor.specs.Replies.{said}
+use Rattle.deciding.specs.Replies.{said}
 use Rattle.predictor.specs.Calls.{Opens, Feeds}
 
 -- Preparing made the table from what was asked and answered k: its promise held of what it was lent and what it left.

@@ -20,9 +20,9 @@ use Rattle.simulate.specs.declared.Judged.{Judged}
 use Rattle.simulate.specs.declared.Judged.the-variants.{Told}
 use Rattle.simulate.specs.Walking.{Walks}
 use Rattle.simulate.specs.Verdicts.{Judges}
-use Rattle.predictor.specs.declared.Answer.{Answer}
+use Rattle.deciding.specs.declared.Answer.{Answer}
 use Rattle.records.specs.Bytes.{heldFrom}
-use Rattle.predictor.specs.Replies.{said}
+use Rattle.deciding.specs.Replies.{said}
 use Rattle.predictor.specs.Calls.{Opens}
 use Rattle.demand.specs.Demand.{Made}
 

@@ -6,8 +6,8 @@ use Rattle.streaming.specs.Calls.{Reply, refused, resolved, nothing}
 use Rattle.streaming.specs.Demand3.{Demand3}
 use Rattle.plan.specs.Bytes.{meaning, asked}
 use Rattle.samples.specs.Plans.{bytes, A}
-use Rattle.predictor.specs.declared.Answer.{Answer}
-use Rattle.predictor.specs.declared.Answer.the-variants.{Refused, Resolved, Nothing}
+use Rattle.deciding.specs.declared.Answer.{Answer}
+use Rattle.deciding.specs.declared.Answer.the-variants.{Refused, Resolved, Nothing}
 use Rattle.demand.specs.Demand.{Made, Walk}
 
 abbrev pub planA : List ℕ

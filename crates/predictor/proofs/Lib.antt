@@ -1,6 +1,4 @@
-pub mod Letters
-pub mod Standing
-pub mod Judging
+pub mod Leaving
 pub mod Tables
 pub mod Ending
 pub mod Theorems

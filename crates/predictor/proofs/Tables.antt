@@ -8,20 +8,27 @@ use lib.Dec.{ltb}
 use lib.ListN.{length}
 use borrow.Author.Tests.{lt-ltb, le-ltb}
 use Rattle.semiautomata.specs.Semiautomaton.{Semiautomaton}
-use Rattle.streaming.specs.Calls.{refused, Result, checked}
+use Rattle.streaming.specs.Calls.{Reply, refused, Result, checked}
 use Rattle.refusals.specs.Checks.{Check}
 use Rattle.streaming.specs.Streaming.{Rec, opened, openChecks, unopened, feed, feedChecks}
 use Rattle.table.specs.declared.Head.{Head}
-use Rattle.table.specs.Table.{lookaheadOf, tableMeaning, unfit}
+use Rattle.table.specs.Table.{initialOf, lookaheadOf, tableMeaning, unfit}
+use Rattle.table.proofs.Fitness.{Fitting}
 use Rattle.table.proofs.Heads.{over, Headed}
 use Rattle.records.specs.Bytes.{heldFrom, decode, tidy}
-use Rattle.predictor.specs.declared.Answer.{Answer}
-use Rattle.predictor.specs.declared.Answer.the-variants.{Refused}
-use Rattle.predictor.specs.Replies.{said}
+use Rattle.deciding.specs.declared.Answer.{Answer}
+use Rattle.deciding.specs.declared.Answer.the-variants.{Refused}
+use Rattle.deciding.specs.Replies.{said}
+use Rattle.deciding.specs.Deciding.{opening, judgeChecks, judged}
+use Rattle.deciding.proofs.Standing.{By, by-sets}
+use Rattle.deciding.proofs.Judging.{opening-is}
 use Rattle.predictor.specs.Calls.{onto, openedOn, fedOn, Opens, Feeds}
-use Rattle.predictor.specs.inner.Parts.{judged, opening, fedInto, openedInto}
-use Rattle.predictor.proofs.Standing.{by-table}
-use Rattle.predictor.proofs.Judging.{opening-is, opened-state, judged-state}
+use Rattle.predictor.specs.inner.Parts.{fedInto, openedInto, Ready}
+use Rattle.predictor.proofs.Leaving.{opened-state, judged-state, judged-ready}
+
+-- a fit table means a semiautomaton by numbers
+pub by-table : {table : List ℕ} → Fitting table → By (tableMeaning table) (initialOf table)
+by-table f = by-sets (f .fit) (f .initial)
 
 -- refusals of a record leave its bytes
 onto-checked : (k : ℕ) (bytes : List ℕ) (cs : List Check) (r : Rec) (done : Result Rec)
@@ -51,9 +58,10 @@ module _ (table bytes : List ℕ) where
     opened-on = rw (f, le-ltb (length bytes) (heldFrom + lookaheadOf table) room)
         (onto-checked _ bytes (openChecks (tableMeaning table)) unopened _)
 
-    pub judged-on : (a : ℕ) → fedOn table bytes a ≡ judged (tableMeaning table) (lookaheadOf table) bytes a
+    pub judged-on : (a : ℕ) → fedOn table bytes a ≡ onto (lookaheadOf table) bytes (judged (tableMeaning table) (lookaheadOf table) bytes a)
     unfolding fedOn judged
     judged-on a = rw (f, le-ltb (length bytes) (heldFrom + lookaheadOf table) room)
+        (onto-checked _ bytes (judgeChecks (tableMeaning table) (lookaheadOf table) bytes a) (decode bytes) _)
 
     pub fed-on : (a : ℕ) → tidy (lookaheadOf table) bytes ≡ true
         → fedOn table bytes a ≡ onto (lookaheadOf table) bytes (feed (tableMeaning table) (lookaheadOf table) (decode bytes) a)
@@ -73,6 +81,11 @@ module _ (table bytes : List ℕ) where
     pub feed-9 : (a : ℕ) → length bytes < heldFrom + head .k → Feeds table bytes a (Refused 9) bytes
     unfolding fedOn
     feed-9 a e = rw (h .sound, short e) (refl, refl)
+
+    -- what is not refused can be taken
+    pub feed-ready : (a : ℕ) {reply : Reply} → reply ≡ judged (over table head (head .starts)) (head .k) bytes a .reply
+        → Ready (head .k) bytes a reply
+    feed-ready a = judged-ready (over table head (head .starts)) (head .k) bytes a (h .fit .letters)
 
     module _ (room : heldFrom + head .k ≤ length bytes) (answer : Answer) {left : List ℕ} where
       pub open-on : said answer ≡ opening (head .k) (head .starts) → left ≡ openedInto (head .k) bytes (said answer)

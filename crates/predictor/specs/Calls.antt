@@ -2,34 +2,28 @@
 -- crates/streaming/specs/Streaming on what the bytes hold.
 -- Assumes nothing.
 use Prim.Native.Nat.{ℕ, _+_}
-use mathlib.Core.Bool.{not, _&&_, _||_}
+use mathlib.Core.Bool.{_||_}
 use mathlib.Core.Path.{_≡_}
 use mathlib.Core.List.{List, [], _∷_, _++_, map}
 use lib.Dec.{ltb}
 use lib.ListN.{length, drop}
 use Rattle.bitset.specs.Numbers.{setOf}
-use Rattle.semiautomata.specs.Semiautomaton.{Semiautomaton}
 use Rattle.streaming.specs.Calls.{Reply, refused, resolved, nothing, Result, checked}
 use Rattle.refusals.specs.Checks.{Check, firstOf}
 use Rattle.refusals.specs.Outcomes.{Outcome, answered, Gives}
 use Rattle.refusals.specs.Outcomes as outcomes
-use Rattle.streaming.specs.Streaming.{Rec, sound, unopened, openChecks, settled, takeChecks, settledBy, finish}
-use Rattle.table.specs.Table.{statesOf, lookaheadOf, tableMeaning, unfit}
-use Rattle.predictor.specs.declared.Answer.{Answer}
-use Rattle.predictor.specs.Replies.{said}
+use Rattle.streaming.specs.Streaming.{Rec, unopened, openChecks, settled, takeChecks, settledBy, finish}
+use Rattle.table.specs.Table.{statesOf, lookaheadOf, tableMeaning, tableCheck}
+use Rattle.records.specs.Bytes.{heldFrom, decode, encode}
+use Rattle.deciding.specs.declared.Answer.{Answer}
+use Rattle.deciding.specs.Replies.{said}
+use Rattle.deciding.specs.Deciding.{bytesCheck}
 use Rattle.predictor.specs.declared.Ended.{Ended}
 use Rattle.predictor.specs.declared.Ended.the-variants.{Open, Refused}
-use Rattle.records.specs.Bytes.{heldFrom, decode, tidy, encode}
 
--- 8, of the table; 9, of the record: fewer than 8 + k bytes; 10: bytes that break the layout, or that hold a record that is not sound.
-abbrev pub tableCheck : List ℕ → Check
-tableCheck table = record { number = 8; applies = unfit table }
-
+-- 9, of the record: fewer than 8 + k bytes.
 abbrev pub recordCheck : List ℕ → List ℕ → Check
 recordCheck table bytes = record { number = 9; applies = ltb (length bytes) (heldFrom + lookaheadOf table) }
-
-abbrev pub bytesCheck : Semiautomaton → ℕ → List ℕ → Check
-bytesCheck S k bytes = record { number = 10; applies = not (tidy k bytes && sound S k (decode bytes)) }
 
 -- The refusals of opening, and of a letter, that stand before 14, in order.
 abbrev pub openingChecks : List ℕ → List ℕ → List Check

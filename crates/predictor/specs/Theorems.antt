@@ -11,8 +11,8 @@ use Rattle.refusals.specs.Checks.{firstOf}
 use Rattle.streaming.specs.Streaming.{opened, feed, Undecided, UndecidedBy}
 use Rattle.table.specs.Table.{lookaheadOf, tableMeaning, unfit}
 use Rattle.records.specs.Bytes.{heldFrom, decode, tidy}
-use Rattle.predictor.specs.declared.Answer.{Answer}
-use Rattle.predictor.specs.Replies.{said}
+use Rattle.deciding.specs.declared.Answer.{Answer}
+use Rattle.deciding.specs.Replies.{said}
 use Rattle.predictor.specs.Calls.{openingChecks, letterChecks, onto, openedOn, fedOn, Opens, Feeds}
 
 pub record Theorems (table bytes : List ℕ) : Type 0 where

@@ -1,172 +1,20 @@
 // Walks letter by letter (document 01, Walks): a record of bytes that is opened, fed and finished on a prepared table.
-// A call is judged and decided first, by what it reads; only then is the record written, and a refused call writes nothing.
+// A call is judged and decided first, by what it reads (crate deciding); only then is the record written, and a refused call writes nothing.
 ghost use mathlib.Core.Path.{_≡_};
-ghost use Prim.Native.Nat.{ℕ, suc, _+_, _-_, _^_, _≤_, _<_};
+ghost use Prim.Native.Nat.{_+_, _≤_};
 ghost use lib.ListN.{length};
-ghost use Rattle.bitset.specs.Numbers.{has, setOf};
-ghost use Rattle.semiautomata.specs.Walks.{reach};
-ghost use Rattle.streaming.specs.PlainWalk.{limit};
-ghost use Rattle.semiautomata.specs.Successors.{successors, Fit};
-ghost use Rattle.semiautomata.specs.Sizes.{maxLookahead};
 ghost use Rattle.records.specs.Bytes.{heldFrom};
-ghost use Rattle.predictor.specs.Replies.{said, isRefusal};
+ghost use Rattle.deciding.specs.Replies.{said, isRefusal};
 ghost use Rattle.predictor.specs.Calls.{Opens, Feeds, Ends};
-ghost use Rattle.predictor.specs.inner.Parts.{baseSet, standing, resolving, judged, opening, lastAfter, fedInto, openedInto};
-ghost use Rattle.predictor.specs.inner.Parts.{Ready, ReadOn, dueAfter, Endable, ListsOpen};
+ghost use Rattle.predictor.specs.inner.Parts.{lastAfter, fedInto, openedInto, Ready};
+use deciding::Answer;
 use records::HELD_FROM;
 use table::SETS_FROM;
-
-// What opening and a letter fed answer: a refusal, a resolved position and its state, or that none was resolved.
-pub enum Answer {
-    Refused(u8),
-    Resolved { position: u32, state: u8 },
-    Nothing,
-}
 
 // What ending answers: how many sets are written, or a refusal.
 pub enum Ended {
     Open(usize),
     Refused(u8),
-}
-
-// The most positions of a held word, its first and its last among them.
-const MAX_POSITIONS: usize = semiautomata::MAX_LOOKAHEAD + 1;
-
-// READING A RECORD
-
-// The base: the initial states while fewer than k letters are taken, else the last resolved state.
-fn base_of(k: usize, starts: u64, fed: usize, last: u8) -> u64
-    ensures { λ r. ⌜ r ≡ baseSet k starts fed last ⌝ }
-{
-    if fed < k {
-        starts
-    } else {
-        bitset::singleton(last as u32)
-    }
-}
-
-// The states that a word leads to from a set, whatever its bytes are: a letter of m or more leads nowhere.
-fn follow(sets: &[u64], n: usize, m: usize, set: u64, word: &[u8]) -> u64
-    requires { ⌜ Fit n m (now sets) × (set < 2 ^ n) ⌝ }
-    ensures { λ r. ⌜ ((starts : ℕ) → r ≡ setOf n (reach (successors n m starts (now (sets .entry))) (has set) (now (word .entry)))) ⌝ }
-{
-    if walks::letter_off(word, m as u64) {
-        return 0;
-    }
-    walks::reach_by(sets, n, m, set, word)
-}
-
-// The states that the held letters lead to from the base; none where the record breaks its rules.
-fn stand(sets: &[u64], n: usize, m: usize, k: usize, starts: u64, rec: &[u8]) -> u64
-    requires { ⌜ Fit n m (now sets) × (starts < 2 ^ n) × (heldFrom + k ≤ length (now rec)) ⌝ }
-    ensures { λ r. ⌜ r ≡ standing (successors n m starts (now (sets .entry))) k (now (rec .entry)) ⌝ }
-{
-    let fed = records::fed_of(rec);
-    let held = records::held_of(rec);
-    let last = rec[4];
-    if !records::is_tidy(rec, k) {
-        return 0;
-    }
-    if !records::is_regular(n, k, fed, records::wide(last), held) {
-        return 0;
-    }
-    let base = base_of(k, starts, fed, last);
-    let end = HELD_FROM + held;
-    follow(sets, n, m, base, &rec[HELD_FROM..end])
-}
-
-// DECIDING
-
-// The possible states, once a letter is read behind the held ones and has led to `next`, at the position that k letters then follow.
-fn due(
-    sets: &[u64],
-    n: usize,
-    m: usize,
-    k: usize,
-    base: u64,
-    held: &[u8],
-    letter: usize,
-    next: u64,
-) -> u64
-    requires { ⌜ Fit n m (now sets) × (base < 2 ^ n) × (k ≤ suc (length (now held))) × ReadOn n m (now sets) base (now held) letter next ⌝ }
-    ensures { λ r. ⌜ ((starts : ℕ) → r ≡ dueAfter (successors n m starts (now (sets .entry))) k base (now (held .entry)) letter) ⌝ }
-{
-    if k == 0 {
-        return next;
-    }
-    let i = held.len() + 1 - k;
-    let here = walks::reach_by(sets, n, m, base, &held[..i]);
-    if u64::count_ones(here) == 1 {
-        return here; // the way that led to `next` goes on from it
-    }
-    walks::survivors_with(sets, n, m, here, &held[i..], letter)
-}
-
-// A position is resolved where one state is possible.
-fn resolution(position: usize, set: u64) -> Answer
-    requires { ⌜ position ≤ limit ⌝ }
-    ensures { λ r. ⌜ said r ≡ resolving position set ⌝ }
-{
-    if u64::count_ones(set) == 1 {
-        Answer::Resolved {
-            position: position as u32,
-            state: u64::trailing_zeros(set) as u8,
-        }
-    } else {
-        Answer::Refused(14)
-    }
-}
-
-// The answer to a letter; nothing is written.
-fn decide(
-    sets: &[u64],
-    n: usize,
-    m: usize,
-    k: usize,
-    starts: u64,
-    rec: &[u8],
-    letter: u32,
-) -> Answer
-    requires { ⌜ Fit n m (now sets) × (starts < 2 ^ n) × (heldFrom + k ≤ length (now rec)) × (k ≤ maxLookahead) ⌝ }
-    ensures { λ r. ⌜ said r ≡ judged (successors n m starts (now (sets .entry))) k (now (rec .entry)) letter .reply ⌝ }
-{
-    let here = stand(sets, n, m, k, starts, rec);
-    if here == 0 {
-        return Answer::Refused(10);
-    }
-    let fed = records::fed_of(rec);
-    if fed == records::LIMIT {
-        return Answer::Refused(11);
-    }
-    let a = letter as usize;
-    if m <= a {
-        return Answer::Refused(12);
-    }
-    let next = walks::gather(sets, n, m, here, a);
-    if next.set == 0 {
-        return Answer::Refused(13);
-    }
-    let taken = fed + 1;
-    if taken < k {
-        return Answer::Nothing;
-    }
-    let base = base_of(k, starts, fed, rec[4]);
-    let end = HELD_FROM + records::held_of(rec);
-    let set = due(sets, n, m, k, base, &rec[HELD_FROM..end], a, next.set);
-    resolution(taken - k, set)
-}
-
-// The answer to opening.
-fn decide_open(k: usize, starts: u64) -> Answer
-    ensures { λ r. ⌜ said r ≡ opening k starts ⌝ }
-{
-    if starts == 0 {
-        return Answer::Refused(13);
-    }
-    if 0 < k {
-        return Answer::Nothing;
-    }
-    resolution(0, starts)
 }
 
 // WRITING A RECORD
@@ -219,33 +67,6 @@ fn begin(rec: &mut [u8], k: usize, answer: Answer)
     records::start(rec, k, last);
 }
 
-// ENDING
-
-// The possible states of the positions of a sound record that are not resolved, and how many these are.
-fn list_open(
-    sets: &[u64],
-    n: usize,
-    m: usize,
-    k: usize,
-    starts: u64,
-    rec: &[u8],
-    out: &mut [u64],
-) -> usize
-    requires { ⌜ Fit n m (now sets) × (starts < 2 ^ n) × Endable (successors n m starts (now sets)) k (now rec) (now out) ⌝ }
-    ensures { λ r. ⌜ ListsOpen (successors n m starts (now (sets .entry))) k (now (rec .entry)) r (now (out .entry)) (now (out .exit)) ⌝ }
-{
-    let held = records::held_of(rec);
-    let base = base_of(k, starts, records::fed_of(rec), rec[4]);
-    let end = HELD_FROM + held;
-    let mut all = [0u64; MAX_POSITIONS];
-    walks::trace(sets, n, m, base, &rec[HELD_FROM..end], &mut all);
-    let count = records::lesser(held + 1, k);
-    let upto = held + 1;
-    let from = upto - count;
-    slices::copy_64(out, &all[from..upto]);
-    count
-}
-
 // THE CALLS
 
 // A fresh walk, in bytes that may hold anything.
@@ -260,7 +81,7 @@ pub fn open(table: &[u64], fresh: &mut [u8]) -> Answer
     if fresh.len() < HELD_FROM + k {
         return Answer::Refused(9);
     }
-    let answer = decide_open(k, head.starts);
+    let answer = deciding::decide_open(k, head.starts);
     begin(fresh, k, answer);
     answer
 }
@@ -278,7 +99,7 @@ pub fn feed(table: &[u64], rec: &mut [u8], letter: u32) -> Answer
         return Answer::Refused(9);
     }
     let sets = &table[SETS_FROM..];
-    let answer = decide(sets, head.n, head.m, k, head.starts, &rec[..], letter);
+    let answer = deciding::decide(sets, head.n, head.m, k, head.starts, &rec[..], letter);
     apply(rec, k, letter, answer);
     answer
 }
@@ -296,9 +117,9 @@ pub fn finish(table: &[u64], rec: &[u8], out: &mut [u64]) -> Ended
         return Ended::Refused(9);
     }
     let sets = &table[SETS_FROM..];
-    if stand(sets, head.n, head.m, k, head.starts, rec) == 0 {
+    if deciding::stand(sets, head.n, head.m, k, head.starts, rec) == 0 {
         return Ended::Refused(10);
     }
-    let count = list_open(sets, head.n, head.m, k, head.starts, rec, out);
+    let count = deciding::list_open(sets, head.n, head.m, k, head.starts, rec, out);
     Ended::Open(count)
 }

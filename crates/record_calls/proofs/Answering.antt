@@ -20,12 +20,13 @@ use Rattle.streaming.proofs.Calls.{Course, refuses as refuses-by, passes, cours
 use Rattle.streaming.proofs.Streaming.{at-sole}
 use Rattle.table.specs.Table.{statesOf, lookaheadOf, tableMeaning, unfit, tableCheck}
 use Rattle.table.proofs.Fitness.{fitting}
-use Rattle.predictor.specs.declared.Answer.{Answer}
-use Rattle.predictor.specs.declared.Answer.the-variants as answer
-use Rattle.predictor.specs.Replies.{said}
+use Rattle.deciding.specs.declared.Answer.{Answer}
+use Rattle.deciding.specs.declared.Answer.the-variants as answer
+use Rattle.deciding.specs.Replies.{said}
 use Rattle.predictor.specs.declared.Ended.{Ended}
 use Rattle.predictor.specs.declared.Ended.the-variants as ended
-use Rattle.predictor.specs.Calls.{recordCheck, bytesCheck, openingChecks, letterChecks, onto, openedOn, fedOn}
+use Rattle.deciding.specs.Deciding.{bytesCheck}
+use Rattle.predictor.specs.Calls.{recordCheck, openingChecks, letterChecks, onto, openedOn, fedOn}
 use Rattle.predictor.specs.Calls.{Opens, Feeds, endChecks, endRefusal, Ends}
 use Rattle.records.specs.Bytes.{decode}
 use Rattle.numbers.specs.Numbers.{Number, value, refusal as refusal-number}

@@ -2,7 +2,7 @@
 -- Assumes nothing.
 use Prim.Native.Nat.{ℕ}
 use mathlib.Core.Path.{refl}
-use Rattle.predictor.specs.declared.Answer.the-variants.{Resolved}
+use Rattle.deciding.specs.declared.Answer.the-variants.{Resolved}
 use Rattle.numbers.proofs.Answering.{gives-number}
 use Rattle.record_calls.specs.Theorems.{Theorems}
 use Rattle.record_calls.proofs.Answering.{opened-small, fed-small, opened-number, fed-number, ended-number}

@@ -6,8 +6,8 @@ use mathlib.Core.Path.{_≡_}
 use mathlib.Core.List.{List, [], _∷_}
 use Rattle.streaming.specs.Calls.{Reply, refused, resolved, nothing}
 use Rattle.table.specs.Table.{tableCheck}
-use Rattle.predictor.specs.declared.Answer.{Answer}
-use Rattle.predictor.specs.Replies.{said}
+use Rattle.deciding.specs.declared.Answer.{Answer}
+use Rattle.deciding.specs.Replies.{said}
 use Rattle.predictor.specs.declared.Ended.{Ended}
 use Rattle.predictor.specs.Calls.{outcomeOfEnded, Opens, Feeds, Ends}
 use Rattle.numbers.specs.Numbers.{Numbers, valued, refusing, numbered, Passed, PassesOn}

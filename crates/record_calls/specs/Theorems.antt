@@ -4,7 +4,7 @@
 use Prim.Native.Nat.{ℕ, _≤_, _<_}
 use mathlib.Core.List.{List}
 use Rattle.table.specs.Table.{statesOf}
-use Rattle.predictor.specs.declared.Answer.the-variants.{Resolved}
+use Rattle.deciding.specs.declared.Answer.the-variants.{Resolved}
 use Rattle.predictor.specs.Calls.{Opens, Feeds}
 use Rattle.numbers.specs.Numbers.{Number}
 use Rattle.record_calls.specs.Promises.{PassesOpening, PassesLetter, PassesEnding}

@@ -4,8 +4,8 @@ ghost use Prim.Native.Nat.{_≤_};
 ghost use lib.ListN.{length};
 ghost use Rattle.numbers.specs.Numbers.{Passed};
 ghost use Rattle.record_calls.specs.Promises.{ofAnswer, PassesOpening, PassesLetter, PassesEnding};
+use deciding::Answer;
 use numbers::REFUSED;
-use predictor::Answer;
 use predictor::Ended;
 
 // Room for the position of a resolution.

@@ -1,5 +1,5 @@
 // The record of a walk as bytes (document 01, Walks): reading its numbers, testing its layout, writing it anew or with one letter more.
-// What a record means for a walk is crate predictor's; here are only its bytes.
+// What a record means for a walk is crate deciding's; here are only its bytes.
 ghost use mathlib.Core.Path.{_≡_};
 ghost use mathlib.Core.Bool.{true, not};
 ghost use mathlib.Core.List.{_∷_, _++_};

@@ -25,7 +25,7 @@ use Rattle.table.specs.Table.{lookaheadOf, tableMeaning, unfit}
 use Rattle.table.proofs.Fitness.{fitting, lookahead-le}
 use Rattle.records.specs.Bytes.{heldFrom, decode}
 use Rattle.predictor.specs.Calls.{written, openedOn, fedOn, ended}
-use Rattle.predictor.specs.Replies.{isRefusal}
+use Rattle.deciding.specs.Replies.{isRefusal}
 use Rattle.predictor.proofs.Ending.{end-0}
 use Rattle.predictor.proofs.Following.{Holds, Small, encode-holds, written-holds, feed-keeps, opened-is, fed-is, follows-small}
 use Rattle.lines.specs.Lines.{Appended}

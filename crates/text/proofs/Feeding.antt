@@ -10,7 +10,7 @@ use lib.ListN.{length, getD, drop, drop-of-length-le}
 use lib.Seq.{drop-cons}
 use Rattle.streaming.specs.Calls.{Reply}
 use Rattle.predictor.specs.Calls.{fedOn}
-use Rattle.predictor.specs.Replies.{isRefusal}
+use Rattle.deciding.specs.Replies.{isRefusal}
 use Rattle.lines.specs.Lines.{Appended}
 use Rattle.text.specs.Report.{replyText, walkText}
 use Rattle.text.specs.Calls.{letterWidth, openOn, walkOn, Laid, fedUpto, FedText}

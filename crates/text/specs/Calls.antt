@@ -14,7 +14,7 @@ use Rattle.plan.specs.Bytes.{meaning, WellFormed}
 use Rattle.table.specs.Table.{setsFrom, laidOut}
 use Rattle.records.specs.Bytes.{heldFrom, decode}
 use Rattle.predictor.specs.Calls.{openedOn, fedOn, endRefusal, ended}
-use Rattle.predictor.specs.Replies.{isRefusal}
+use Rattle.deciding.specs.Replies.{isRefusal}
 use Rattle.text.specs.declared.Printed.{Printed}
 use Rattle.text.specs.declared.Printed.the-variants.{Going, Ended, Short}
 use Rattle.lines.specs.Lines.{refusedLine, Appended}

@@ -14,7 +14,7 @@ use Rattle.streaming.specs.PlainWalk.{plainReply, plainFeed}
 use Rattle.streaming.specs.Streaming.{unresolved}
 use Rattle.plan.specs.declared.Header.{Header}
 use Rattle.plan.specs.Bytes.{headerOf, meaning, refusal, WellFormed}
-use Rattle.predictor.specs.Replies.{isRefusal}
+use Rattle.deciding.specs.Replies.{isRefusal}
 use Rattle.lines.specs.Lines.{countsLine, lookaheadLine, refusedLine, resolutionLine, openLine}
 
 -- THE INPUT: plan bytes, then one byte a letter. The plan is as long as its total says.

@@ -8,15 +8,15 @@ ghost use Rattle.semiautomata.specs.Predictability.{Lookahead};
 ghost use Rattle.plan.specs.Bytes.{meaning, WellFormed};
 ghost use Rattle.table.specs.Table.{lookaheadOf, tableMeaning, unfit};
 ghost use Rattle.endian.specs.Numbers.{numberAt};
-ghost use Rattle.predictor.specs.Replies.{said};
+ghost use Rattle.deciding.specs.Replies.{said};
 ghost use Rattle.predictor.specs.Calls.{openedOn};
-ghost use Rattle.predictor.specs.Replies.{isRefusal};
+ghost use Rattle.deciding.specs.Replies.{isRefusal};
 ghost use Rattle.lines.specs.Lines.{Appended};
 ghost use Rattle.text.specs.Report.{totalOf, noPlan, replyText, openLines, AfterLookahead, AfterCounts};
 ghost use Rattle.text.specs.Calls.{mostSets, tableSize, recordSize, letterWidth, openWidth, over, printedOf};
 ghost use Rattle.text.specs.Calls.{FeedsPart, Finishes, Lays, Leaves, Begins};
+use deciding::Answer;
 use plan::Reading;
-use predictor::Answer;
 use predictor::Ended;
 use prepare::Prepared;
 

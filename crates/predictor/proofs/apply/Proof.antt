@@ -6,7 +6,7 @@ use mathlib.Core.Path.{_≡_, sym, _∙_}
 use native.Mathlib.Omega.{arith}
 use Rattle.streaming.specs.PlainWalk.{limit}
 use Rattle.records.specs.Bytes.{decode, tidy}
-use Rattle.predictor.proofs.Judging.{fed-kept, fed-taken}
+use Rattle.predictor.proofs.Leaving.{fed-kept, fed-taken}
 use borrow.Author.Needs.{needs}
 use Rattle.predictor.proofs.apply.Statement.{statement}
 use Rattle.predictor.proofs.apply.Tie as tie

@@ -1,7 +1,7 @@
 -- `begin` meets its contract.
 -- Assumes nothing.
 use mathlib.Core.Path.{sym, _∙_}
-use Rattle.predictor.proofs.Judging.{opened-kept, opened-taken}
+use Rattle.predictor.proofs.Leaving.{opened-kept, opened-taken}
 use borrow.Author.Needs.{needs}
 use Rattle.predictor.proofs.begin.Statement.{statement}
 use Rattle.predictor.proofs.begin.Tie as tie

@@ -1,12 +1,10 @@
 -- `feed` meets its contract: a law for each return.
 -- Assumes nothing.
-use mathlib.Core.Path.{sym, _∙_, subst}
+use mathlib.Core.Path.{sym, _∙_}
 use native.Mathlib.Omega.{arith}
 use borrow.Author.Needs.{needs}
 use Rattle.table.proofs.Heads.{Headed, head-unfit, headed}
-use Rattle.predictor.specs.inner.Parts.{Ready}
-use Rattle.predictor.proofs.Judging.{judged-ready}
-use Rattle.predictor.proofs.Tables.{feed-8, feed-9, feed-on}
+use Rattle.predictor.proofs.Tables.{feed-8, feed-9, feed-ready, feed-on}
 use Rattle.predictor.proofs.feed.Statement.{statement}
 use Rattle.predictor.proofs.feed.Tie as tie
 
@@ -40,11 +38,7 @@ decide-requires c κs = let e = c .before .before in let h = head (e .before) in
 apply-requires : tie.Need-apply-requires
 apply-requires c κs =
     let e = c .before .before .before .before in
-    let a = start (e .before) .args in (
-      e .if2 .left,
-      subst (Ready _ (a .rec .now) (a .letter)) (sym (c .before .decide .ensures))
-          (judged-ready _ _ _ _ (head (e .before) .fit .letters)),
-    )
+    (e .if2 .left, feed-ready _ _ (head (e .before)) _ (c .before .decide .ensures))
 
 returns-3 : tie.Need-returns-3
 returns-3 c =

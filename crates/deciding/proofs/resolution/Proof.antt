@@ -5,10 +5,10 @@ use native.Mathlib.Omega.{arith}
 use borrow.Author.Tests.{ne-eqb}
 use Rattle.bitset.proofs.Members.{ones-size, trailing-least, one-sole}
 use Rattle.streaming.specs.PlainWalk.{limit}
-use Rattle.predictor.specs.inner.Parts.{resolving}
+use Rattle.deciding.specs.Deciding.{resolving}
 use borrow.Author.Needs.{needs}
-use Rattle.predictor.proofs.resolution.Statement.{statement}
-use Rattle.predictor.proofs.resolution.Tie as tie
+use Rattle.deciding.proofs.resolution.Statement.{statement}
+use Rattle.deciding.proofs.resolution.Tie as tie
 
 cast-t6 : tie.Need-cast-t6
 unfolding limit

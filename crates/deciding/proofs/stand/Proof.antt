@@ -9,10 +9,10 @@ use Rattle.records.specs.Bytes.{heldCount, decode, tidy}
 use Rattle.records.specs.Taking.{regular}
 use Rattle.slices.proofs.Parts.{part-first}
 use Rattle.records.proofs.Bytes.{tidy-out}
-use Rattle.predictor.proofs.Standing.{by-sets, keeps-in, from-lt, standing-untidy, standing-against, standing-walked}
+use Rattle.deciding.proofs.Standing.{by-sets, keeps-in, from-lt, standing-untidy, standing-against, standing-walked}
 use borrow.Author.Needs.{needs}
-use Rattle.predictor.proofs.stand.Statement.{statement}
-use Rattle.predictor.proofs.stand.Tie as tie
+use Rattle.deciding.proofs.stand.Statement.{statement}
+use Rattle.deciding.proofs.stand.Tie as tie
 
 abbrev start : tie.Else1 → tie.Start
 start c = c .before .before .before .before .before .before .before

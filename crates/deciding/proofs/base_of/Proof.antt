@@ -1,10 +1,10 @@
 -- `base_of` meets its contract.
 -- Assumes nothing.
 use borrow.Author.Tests.{lt-ltb, le-ltb}
-use Rattle.predictor.specs.inner.Parts.{baseSet}
+use Rattle.deciding.specs.inner.Parts.{baseSet}
 use borrow.Author.Needs.{needs}
-use Rattle.predictor.proofs.base_of.Statement.{statement}
-use Rattle.predictor.proofs.base_of.Tie as tie
+use Rattle.deciding.proofs.base_of.Statement.{statement}
+use Rattle.deciding.proofs.base_of.Tie as tie
 
 returns : tie.Need-returns
 unfolding baseSet

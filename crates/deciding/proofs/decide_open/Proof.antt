@@ -1,10 +1,10 @@
 -- `decide_open` meets its contract.
 -- Assumes nothing.
 use borrow.Author.Tests.{ne-eqb, lt-ltb, le-ltb}
-use Rattle.predictor.specs.inner.Parts.{opening}
+use Rattle.deciding.specs.Deciding.{opening}
 use native.Mathlib.Omega.{arith}
-use Rattle.predictor.proofs.decide_open.Statement.{statement}
-use Rattle.predictor.proofs.decide_open.Tie as tie
+use Rattle.deciding.proofs.decide_open.Statement.{statement}
+use Rattle.deciding.proofs.decide_open.Tie as tie
 
 returns : tie.Need-returns
 unfolding opening

@@ -9,13 +9,13 @@ use Rattle.semiautomata.specs.Semiautomaton.{Semiautomaton}
 use Rattle.semiautomata.specs.Successors.{successors}
 use Rattle.streaming.specs.Streaming.{base}
 use Rattle.records.specs.Bytes.{decode}
-use Rattle.predictor.specs.inner.Parts.{standing}
 use Rattle.slices.proofs.Parts.{part-first}
-use Rattle.predictor.proofs.Standing.{By, by-sets, from-is, from-lt, Standing, standing-some}
-use Rattle.predictor.proofs.Ending.{open-sets, open-count, base-some, held-whole}
+use Rattle.deciding.specs.Deciding.{standing}
+use Rattle.deciding.proofs.Standing.{By, by-sets, from-is, from-lt, Standing, standing-some}
+use Rattle.deciding.proofs.Unresolved.{open-sets, open-count, base-some, held-whole}
 use borrow.Author.Needs.{needs}
-use Rattle.predictor.proofs.list_open.Statement.{statement}
-use Rattle.predictor.proofs.list_open.Tie as tie
+use Rattle.deciding.proofs.list_open.Statement.{statement}
+use Rattle.deciding.proofs.list_open.Tie as tie
 
 abbrev meaning : tie.Start → Semiautomaton
 meaning c = let a = c .args in successors (a .n) (a .m) (a .starts) (a .sets .now)

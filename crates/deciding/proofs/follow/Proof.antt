@@ -2,10 +2,10 @@
 -- Assumes nothing.
 use mathlib.Core.Path.{sym, _∙_}
 use Rattle.walks.proofs.Letters.{letters-below}
-use Rattle.predictor.proofs.Letters.{stray-none}
+use Rattle.deciding.proofs.Letters.{stray-none}
 use borrow.Author.Needs.{needs}
-use Rattle.predictor.proofs.follow.Statement.{statement}
-use Rattle.predictor.proofs.follow.Tie as tie
+use Rattle.deciding.proofs.follow.Statement.{statement}
+use Rattle.deciding.proofs.follow.Tie as tie
 
 returns : tie.Need-returns
 returns c =

@@ -23,15 +23,14 @@ use Rattle.streaming.specs.Streaming.{Rec, base, rules, every, sound}
 use Rattle.semiautomata.proofs.Computed.{walkable-reach}
 use Rattle.semiautomata.proofs.Positions.{single-is}
 use Rattle.semiautomata.proofs.Successors.{fit-within}
-use Rattle.table.specs.Table.{initialOf, tableMeaning}
 use Rattle.walks.specs.Walking.{Letters}
 use Rattle.walks.proofs.Words.{some-of, none-of}
-use Rattle.table.proofs.Fitness.{Fitting}
 use Rattle.records.specs.Bytes.{heldFrom, heldCount, decode, tidy}
 use Rattle.records.specs.Taking.{regular}
-use Rattle.predictor.specs.inner.Parts.{baseSet, standing}
 use Rattle.records.proofs.Bytes.{tidy-out}
-use Rattle.predictor.proofs.Letters.{reach-letters}
+use Rattle.deciding.specs.Deciding.{standing}
+use Rattle.deciding.specs.inner.Parts.{baseSet}
+use Rattle.deciding.proofs.Letters.{reach-letters}
 
 -- S by numbers: at most 64 states, its initial states those of the number `starts`
 pub record By (S : Semiautomaton) (starts : ℕ) : Type 0 where
@@ -42,9 +41,6 @@ pub record By (S : Semiautomaton) (starts : ℕ) : Type 0 where
 
 pub by-sets : {n m starts : ℕ} {sets : List ℕ} → Fit n m sets → starts < 2 ^ n → By (successors n m starts sets) starts
 by-sets f h = record { within = fit-within _ _ _ _ f h; states = f .states; initial = refl; below = h }
-
-pub by-table : {table : List ℕ} → Fitting table → By (tableMeaning table) (initialOf table)
-by-table f = by-sets (f .fit) (f .initial)
 
 -- THE BASE
 

@@ -13,10 +13,10 @@ use Rattle.semiautomata.specs.Successors.{successors}
 use Rattle.walks.proofs.Steps.{bare, bare-within, possible-bare}
 use Rattle.walks.proofs.Letters.{letters-take, letters-drop}
 use Rattle.slices.proofs.Parts.{part-whole}
-use Rattle.predictor.proofs.Judging.{due-set, due-sole, due-last}
+use Rattle.deciding.proofs.Judging.{due-set, due-sole, due-last}
 use borrow.Author.Needs.{needs}
-use Rattle.predictor.proofs.due.Statement.{statement}
-use Rattle.predictor.proofs.due.Tie as tie
+use Rattle.deciding.proofs.due.Statement.{statement}
+use Rattle.deciding.proofs.due.Tie as tie
 
 abbrev start : tie.Else1 → tie.Start
 start c = c .before .before .before
@@ -44,16 +44,17 @@ slice-aggregate-reach-by c = sym (length-take-le _ _ (inside (c .before)))
 reach-by-requires : tie.Need-reach-by-requires
 reach-by-requires c κs = let e = c .before in let p = start e .pre in (p .0, p .1, letters-take (position e) (p .3 .0))
 
+here-lt : (c : tie.After-reach-by) → c .reach-by .result < 2 ^ start (c .before .before) .args .n
+here-lt c = rw (c .reach-by .ensures 0) (setOf-lt (start (c .before .before) .args .n) _)
+
 returns-2 : tie.Need-returns-2
 returns-2 c starts =
     let e = c .before .before .before in
     let s = start e in
     let a = s .args in
-    let here = c .before .reach-by .ensures 0 in
-    let fits : c .before .reach-by .result < 2 ^ a .n = rw here (setOf-lt (a .n) _) in
     let sole = due-sole (bare (a .n) (a .m) (a .sets .now)) (has (a .base)) (a .held .now) (a .letter) (bare-within (s .pre .0))
     (λ x f. has-lt (a .n) (a .base) x (s .pre .1) f)
-    (position e) (inside e) here (sym (ones-size (a .n) _ fits) ∙ c .if2 .taken) (s .pre .3 .3 0) (s .pre .3 .2) in
+    (position e) (inside e) (c .before .reach-by .ensures 0) (sym (ones-size (a .n) _ (here-lt (c .before))) ∙ c .if2 .taken) (s .pre .3 .3 0) (s .pre .3 .2) in
     let z : suc (length (a .held .now)) - a .k ≡ position e = omega arith in
     rw z (sole ∙ setOf-cong (a .n) _ _
     (λ x _. sym (possible-bare (a .n) (a .m) starts (a .sets .now) (has (a .base)) (a .held .now ++ (a .letter ∷ [])) (position e) x)))
@@ -63,7 +64,7 @@ survivors-with-requires c κs =
     let e = c .before .before .before .before in
     let s = start e in (
       s .pre .0,
-      rw (c .before .before .reach-by .ensures 0) (setOf-lt (s .args .n) _),
+      here-lt (c .before .before),
       rw (behind e)
           (letters-drop (position e) (s .pre .3 .0)),
       s .pre .3 .1,

@@ -2,8 +2,8 @@
 -- Assumes nothing.
 use mathlib.Core.Bool.{Bool, true, false}
 use Rattle.streaming.specs.Calls.{Reply, refused, resolved, nothing}
-use Rattle.predictor.specs.declared.Answer.{Answer}
-use Rattle.predictor.specs.declared.Answer.the-variants.{Refused, Resolved, Nothing}
+use Rattle.deciding.specs.declared.Answer.{Answer}
+use Rattle.deciding.specs.declared.Answer.the-variants.{Refused, Resolved, Nothing}
 
 abbrev pub said : Answer → Reply
 said (Refused r) = refused r

@@ -12,11 +12,11 @@ use Rattle.semiautomata.specs.Successors.{successors}
 use Rattle.streaming.specs.PlainWalk.{limit}
 use Rattle.records.specs.Bytes.{decode}
 use Rattle.slices.proofs.Parts.{part-first}
-use Rattle.predictor.proofs.Standing.{By, by-sets, from-is, from-lt, Standing, standing-some, standing-none}
-use Rattle.predictor.proofs.Judging.{judged-10, judged-11, judged-12, judged-13, reached-from, judged-nothing, judged-resolved}
+use Rattle.deciding.proofs.Standing.{By, by-sets, from-is, from-lt, Standing, standing-some, standing-none}
+use Rattle.deciding.proofs.Judging.{judged-10, judged-11, judged-12, judged-13, reached-from, judged-nothing, judged-resolved}
 use borrow.Author.Needs.{needs}
-use Rattle.predictor.proofs.decide.Statement.{statement}
-use Rattle.predictor.proofs.decide.Tie as tie
+use Rattle.deciding.proofs.decide.Statement.{statement}
+use Rattle.deciding.proofs.decide.Tie as tie
 
 -- the places that control came by
 abbrev start : tie.Else1 → tie.Start

@@ -1,16 +1,16 @@
--- The answer to a letter and to opening, test by test, and what it leaves of the bytes.
+-- The position that is due, and the answers to a letter and to opening, test by test.
 -- Assumes nothing.
 use Prim.Native.Nat.{ℕ, suc, _+_, _-_, _≤_, _<_}
-use mathlib.Core.Bool.{Bool, true, false, cond, _&&_, true≢false, false≢true, and-true}
-use mathlib.Core.Path.{_≡_, refl, sym, _∙_, ap}
+use mathlib.Core.Bool.{Bool, true, false, _&&_, and-true}
+use mathlib.Core.Path.{_≡_, sym, _∙_, ap}
 use mathlib.Core.Logic.{_⊎_, inl, inr}
 use mathlib.Core.List.{List, [], _∷_, _++_}
 use native.Mathlib.Numerals.{add-one}
 use native.Mathlib.Omega.{arith}
 use lib.Dec.{eqb, ltb}
 use lib.ListN.{length, take, drop, take-append-drop}
-use lib.Seq.{take-length, take-append-le, drop-append-le, drop-nil}
-use borrow.Author.Tests.{lt-ltb, le-ltb, le-leb, lt-leb, eqb-true, eqb-false, leb-false, ltb-true, ltb-false, not-false}
+use lib.Seq.{take-length, take-append-le, drop-append-le}
+use borrow.Author.Tests.{lt-ltb, le-ltb, le-leb, lt-leb, eqb-true, eqb-false, ltb-true, ltb-false}
 use Rattle.bitset.specs.Sets.{any, size}
 use Rattle.bitset.specs.Numbers.{has, setOf}
 use Rattle.bitset.proofs.Tests.{and-in, and-out, decided, same-test}
@@ -20,23 +20,17 @@ use Rattle.bitset.proofs.Members.{ones-size}
 use Rattle.semiautomata.specs.Semiautomaton.{Semiautomaton, Within}
 use Rattle.semiautomata.specs.Walks.{spells, step, reach, survivors, walkable, possible}
 use Rattle.semiautomata.specs.Successors.{successors}
-use Rattle.streaming.specs.Calls.{Reply, refused, resolved, nothing, Result, checked}
-use Rattle.refusals.specs.Checks.{Check}
+use Rattle.streaming.specs.Calls.{Reply, refused, nothing}
 use Rattle.streaming.specs.PlainWalk.{limit}
-use Rattle.streaming.specs.Streaming.{Rec, base, sound, latest, soleAt, resolve, settle, after}
-use Rattle.streaming.specs.Streaming.{unopened, openChecks, opened, settledBy}
-use Rattle.refusals.proofs.First.{Passed}
+use Rattle.streaming.specs.Streaming.{base, sound, soleAt, resolve, settle, opened}
 use Rattle.semiautomata.proofs.Computed.{reach-out, spells-in, reach-append, walkable-reach}
 use Rattle.semiautomata.proofs.Paths.{path-lt}
 use Rattle.streaming.proofs.Streaming.{length-snoc}
 use Rattle.walks.proofs.Steps.{reach-bare, step-members}
 use Rattle.walks.proofs.Words.{some-of, none-of, possible-last}
 use Rattle.records.specs.Bytes.{decode, tidy}
-use Rattle.predictor.specs.Replies.{isRefusal}
-use Rattle.predictor.specs.Calls.{written, onto}
-use Rattle.records.specs.Taking.{takenInto, startedInto}
-use Rattle.predictor.specs.inner.Parts.{resolving, opening, judgeChecks, judged, lastAfter, fedInto, openedInto, Ready}
-use Rattle.predictor.proofs.Standing.{By, base-below, Standing}
+use Rattle.deciding.specs.Deciding.{resolving, opening, judged}
+use Rattle.deciding.proofs.Standing.{By, base-below, Standing}
 
 -- THE POSITION THAT IS DUE
 
@@ -178,99 +172,26 @@ module _ {S : Semiautomaton} {k here starts : ℕ} {bytes : List ℕ} (s : Stand
             (length (decode bytes .held ++ (a ∷ [])) - k) (suc (decode bytes .fed) - k) same
             ∙ rw (settles, settle, le-ltb (suc (decode bytes .fed)) k l))
 
--- WHAT IS LEFT
-
--- a call with refusals leaves what its reply leaves, and one that is not refused has passed them all
-module _ {A : Type 0} (state : A) (left : Reply → A) (h : (number : ℕ) → left (refused number) ≡ state) (v : Reply) where
-  abbrev given : List Check → Result A
-  given cs = checked cs state (record { reply = v; state = left v })
-
-  pub checked-state : (cs : List Check) → given cs .state ≡ left (given cs .reply)
-  checked-state [] = refl
-  checked-state (c ∷ cs) = go (c .applies) (checked-state cs)
-    where
-      go : (b : Bool) → given cs .state ≡ left (given cs .reply)
-          → let r = cond b (record { reply = refused (c .number); state = state }) (given cs) in r .state ≡ left (r .reply)
-      go true ih = sym (h (c .number))
-      go false ih = ih
-
-  pub checked-passed : (cs : List Check) → isRefusal (given cs .reply) ≡ false → Passed cs
-  checked-passed [] e = tt
-  checked-passed (c ∷ cs) e = go (c .applies) refl (checked-passed cs) e
-    where
-      go : (b : Bool) → c .applies ≡ b → (isRefusal (given cs .reply) ≡ false → Passed cs)
-          → isRefusal (cond b (record { reply = refused (c .number); state = state }) (given cs) .reply) ≡ false → Passed (c ∷ cs)
-      go true e ih d = absurd (true≢false d)
-      go false e ih d = (e, ih d)
-
-module _ (S : Semiautomaton) (k : ℕ) (bytes : List ℕ) (a : ℕ) where
-  abbrev settling : Reply
-  settling = settledBy S k (decode bytes) a .reply
-
-  pub judged-state : judged S k bytes a .state ≡ fedInto k bytes a (judged S k bytes a .reply)
-  unfolding judged fedInto
-  judged-state = checked-state bytes (fedInto k bytes a) (λ number. refl) settling (judgeChecks S k bytes a)
-
-  pub judged-ready : S .m ≤ 32 → Ready k bytes a (judged S k bytes a .reply)
-  unfolding judged fedInto
-  judged-ready few e =
-      let (t, (l, (m, _))) = checked-passed bytes (fedInto k bytes a) (λ number. refl) settling (judgeChecks S k bytes a) e in
-      (and-out _ _ (not-false _ t) .0, leb-false _ _ l, omega (arith, leb-false (S .m) a m))
-
--- a refusal keeps the bytes
-pub fed-kept : (k : ℕ) (bytes : List ℕ) (a : ℕ) (reply : Reply) → isRefusal reply ≡ true → bytes ≡ fedInto k bytes a reply
-unfolding fedInto
-fed-kept k bytes a (refused number) e = refl
-fed-kept k bytes a (resolved i x) e = absurd (false≢true e)
-fed-kept k bytes a nothing e = absurd (false≢true e)
-
-pub fed-taken : (k : ℕ) (bytes : List ℕ) (a : ℕ) (reply : Reply) → isRefusal reply ≡ false
-    → takenInto k bytes a (lastAfter reply (decode bytes .last)) ≡ fedInto k bytes a reply
-unfolding fedInto takenInto
-fed-taken k bytes a (refused number) e = absurd (true≢false e)
-fed-taken k bytes a (resolved i x) e = refl
-fed-taken k bytes a nothing e = refl
-
 -- OPENING
 
-pub opened-kept : (k : ℕ) (bytes : List ℕ) (reply : Reply) → isRefusal reply ≡ true → bytes ≡ openedInto k bytes reply
-unfolding openedInto
-opened-kept k bytes (refused number) e = refl
-opened-kept k bytes (resolved i x) e = absurd (false≢true e)
-opened-kept k bytes nothing e = absurd (false≢true e)
+module _ (S : Semiautomaton) (k : ℕ) {starts : ℕ} (b : By S starts) where
+  start-set : starts ≡ setOf (S .n) (possible S (S .initial) [] 0)
+  unfolding possible spells
+  start-set = sym (setOf-has (S .n) starts (b .below)) ∙ setOf-cong (S .n) _ _ (λ t _. rw (b .initial) (sym (and-true (has starts t))))
 
-pub opened-taken : (k : ℕ) (bytes : List ℕ) (reply : Reply) → isRefusal reply ≡ false
-    → startedInto k bytes (lastAfter reply 255) ≡ openedInto k bytes reply
-unfolding openedInto startedInto
-opened-taken k bytes (refused number) e = absurd (true≢false e)
-opened-taken k bytes (resolved i x) e = let none : latest k [] ≡ [] = drop-nil (0 - k) in rw none
-opened-taken k bytes nothing e = let none : latest k [] ≡ [] = drop-nil (0 - k) in rw none
+  pub opening-is : opening k starts ≡ opened S k .reply
+  unfolding opening opened settle
+  opening-is = go (decided (eqb starts 0)) (decided (ltb 0 k))
+    where
+      some : eqb starts 0 ≡ false → any (S .n) (S .initial) ≡ true
+      some e = rw (b .initial) (some-member (S .n) starts (omega (arith, eqb-false starts 0 e)) (b .below))
 
-module _ (S : Semiautomaton) (k : ℕ) where
-  pub opened-state : (bytes : List ℕ) → onto k bytes (opened S k) .state ≡ openedInto k bytes (opened S k .reply)
-  unfolding opened openedInto
-  opened-state bytes =
-      ap (λ (r : Rec). written k bytes r (opened S k .reply))
-      (checked-state unopened (after k unopened 0 []) (λ _. refl) (settle S k (S .initial) 0 []) (openChecks S))
-
-  module _ {starts : ℕ} (b : By S starts) where
-    start-set : starts ≡ setOf (S .n) (possible S (S .initial) [] 0)
-    unfolding possible spells
-    start-set = sym (setOf-has (S .n) starts (b .below)) ∙ setOf-cong (S .n) _ _ (λ t _. rw (b .initial) (sym (and-true (has starts t))))
-
-    pub opening-is : opening k starts ≡ opened S k .reply
-    unfolding opening opened settle
-    opening-is = go (decided (eqb starts 0)) (decided (ltb 0 k))
-      where
-        some : eqb starts 0 ≡ false → any (S .n) (S .initial) ≡ true
-        some e = rw (b .initial) (some-member (S .n) starts (omega (arith, eqb-false starts 0 e)) (b .below))
-
-        go : (eqb starts 0 ≡ true) ⊎ (eqb starts 0 ≡ false) → (ltb 0 k ≡ true) ⊎ (ltb 0 k ≡ false) → opening k starts ≡ opened S k .reply
-        go (inl e) l =
-            let none : any (S .n) (S .initial) ≡ false =
-            rw (b .initial) (any-none (S .n) (has starts) (λ t _. rw (eqb-true starts 0 e) (has-empty t))) in
-            rw (opening, e, opened, none)
-        go (inr e) (inl l) = rw (opening, e, l, opened, some e, settle)
-        go (inr e) (inr l) =
-            let z : k ≡ 0 = omega (arith, ltb-false 0 k l) in
-            rw (opening, e, l, opened, some e, settle, z) (resolving-is S (b .states) (S .initial) [] 0 0 start-set)
+      go : (eqb starts 0 ≡ true) ⊎ (eqb starts 0 ≡ false) → (ltb 0 k ≡ true) ⊎ (ltb 0 k ≡ false) → opening k starts ≡ opened S k .reply
+      go (inl e) l =
+          let none : any (S .n) (S .initial) ≡ false =
+          rw (b .initial) (any-none (S .n) (has starts) (λ t _. rw (eqb-true starts 0 e) (has-empty t))) in
+          rw (opening, e, opened, none)
+      go (inr e) (inl l) = rw (opening, e, l, opened, some e, settle)
+      go (inr e) (inr l) =
+          let z : k ≡ 0 = omega (arith, ltb-false 0 k l) in
+          rw (opening, e, l, opened, some e, settle, z) (resolving-is S (b .states) (S .initial) [] 0 0 start-set)

@@ -1,0 +1,4 @@
+pub mod Letters
+pub mod Standing
+pub mod Judging
+pub mod Unresolved
