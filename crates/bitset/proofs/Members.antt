@@ -5,10 +5,11 @@ use mathlib.Core.Path.{_≡_, refl, sym, _∙_, ap}
 use mathlib.Core.Logic.{inl, inr}
 use Prim.Native.Nat.{ℕ, zero, suc, _-_, _/_, _^_, _<_}
 use native.Mathlib.Omega.{arith}
-use lib.Dec.{eqb, eqb·zero-suc, eqb·suc-suc}
+use native.Mathlib.Nat.{lt-of-le-of-lt}
+use lib.Dec.{lit<, eqb, eqb·zero-suc, eqb·suc-suc}
 use lib.Arith.{lt-one}
 use lib.Bits.{bitAnd, and-le-r}
-use lib.Count.{ones, ones-step, trailingZeros, under}
+use lib.Count.{ones, ones-step, trailingZeros, trailing-le, under}
 use Rattle.bitset.specs.Sets.{one-if, size, least}
 use Rattle.bitset.specs.Numbers.{has}
 use Rattle.bitset.proofs.Tests.{decided}
@@ -25,6 +26,10 @@ pub trailing-least : (k x : ℕ) → trailingZeros k x ≡ least k (has x)
 unfolding trailingZeros least
 trailing-least zero x = refl
 trailing-least (suc k) x = simp (low x, under-is, trailing-least k (x / 2), has-suc)
+
+-- .. as an index
+pub least-word : (x : ℕ) → trailingZeros 64 x < 2 ^ 64
+least-word x = lt-of-le-of-lt (trailing-le 64 x) (lit< tt)
 
 pub ones-size : (k x : ℕ) → x < 2 ^ k → ones x ≡ size k (has x)
 unfolding ones size

@@ -27,7 +27,7 @@ use Rattle.plan.proofs.Refusals.{well-formed-within, asked-proper}
 use Rattle.prepare.specs.declared.Prepared.{Prepared}
 use Rattle.prepare.specs.Preparing.{LooksAhead, asNumber, Draws}
 use Rattle.prepare.specs.Theorems.{Right}
-use Rattle.samples.specs.Plans.{bytes, Ahead, Holds}
+use Rattle.samples.specs.Plans.{bytes, Ahead, AsSaid}
 use Rattle.samples.proofs.Plans.{ahead, ahead-so, samples-hold}
 use Rattle.demand.specs.Rows.{Saying, walked, judged, unopened, at-bound, Row, Replied, drawn, IsSo, AllSo, RowHolds, AllRows, rows}
 use Rattle.prepare.proofs.Theorems.{theorems as preparing-theorems}
@@ -144,7 +144,7 @@ all-so plan W (c ∷ cs) (p, ps) = (is-so plan W c p, all-so plan W cs ps)
 
 -- THE TABLE
 
-row-holds : (r : Row) → Holds (r .sample) → AllComputed (meaning (bytes (r .sample))) (r .sayings)
+row-holds : (r : Row) → AsSaid (r .sample) → AllComputed (meaning (bytes (r .sample))) (r .sayings)
     → RowHolds (bytes (r .sample)) (r .sample .lookahead) (r .sayings)
 row-holds r h c =
     let plan = bytes (r .sample) in
@@ -160,7 +160,7 @@ row-holds r h c =
 
 abbrev AllHold : List Row → Type 0
 AllHold [] = Unit {0}
-AllHold (r ∷ rs) = Holds (r .sample) × AllHold rs
+AllHold (r ∷ rs) = AsSaid (r .sample) × AllHold rs
 
 abbrev AllSaid : List Row → Type 0
 AllSaid [] = Unit {0}

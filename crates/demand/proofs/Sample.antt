@@ -19,7 +19,7 @@ use Rattle.records.specs.Bytes.{tidy}
 use Rattle.deciding.specs.declared.Answer.the-variants.{Refused, Resolved, Nothing}
 use Rattle.predictor.specs.Calls.{openedOn, fedOn, Opens, Feeds}
 use Rattle.demand.specs.Demand.{Made, none, more, Walk}
-use Rattle.demand.specs.Sample.{planA, tableA, offered, answers, Sample}
+use Rattle.demand.specs.Sample.{planA, tableA, offered, answers, OnPlanA}
 use Rattle.demand.proofs.Theorems.{walked-right}
 use Rattle.samples.proofs.Plans.{samples-hold}
 
@@ -94,7 +94,7 @@ walk = record {
   feeding = more first (more refused-1 (more second (more third (more refused-256 none))));
 }
 
-pub sample : Sample
+pub sample : OnPlanA
 sample = record {
   made = made;
   walk = walk;

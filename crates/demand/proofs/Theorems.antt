@@ -32,7 +32,7 @@ use Rattle.deciding.specs.declared.Answer.{Answer}
 use Rattle.records.specs.Bytes.{heldFrom, decode, tidy}
 use Rattle.deciding.specs.Replies.{said}
 use Rattle.predictor.specs.Calls.{letterChecks, written, openedOn, fedOn, Opens}
-use Rattle.demand.specs.Demand.{Made, Walk, Taken, Theorems, Met, DemandMet}
+use Rattle.demand.specs.Demand.{Made, Walk, Taken, Theorems, TheoremsMet, DemandMet}
 use Rattle.predictor.proofs.Following.{Holds, Small, encode-holds, follows-small, opened-is}
 use Rattle.demand.proofs.Feeding.{feeding-replies}
 
@@ -148,7 +148,7 @@ module _ (A : Asked) (P : Proper A) (k : ℕ) (table : List ℕ) (made : Made A 
       let (s, e) = started (w .bytes) first (w .left) (w .room) (w .opening) taken in
       rw (t .means, t .k-is) at (on-demand3 table (t .fit) (here .enough) s (same s ∙ e) here offered first answers (rw (t .k-is) w))
 
-pub met : Met
+pub met : TheoremsMet
 met = theorems
 
 pub demand : DemandMet

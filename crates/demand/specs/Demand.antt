@@ -19,7 +19,7 @@ use Rattle.claim.specs.Checking.{Checks}
 use Rattle.prepare.specs.declared.Prepared.{Prepared}
 use Rattle.prepare.specs.declared.Prepared.the-variants.{Ready, Unpredictable}
 use Rattle.prepare.specs.Preparing.{Prepares, CountsTo}
-use Rattle.prepare.specs.Theorems.{Answers, Right}
+use Rattle.prepare.specs.Theorems.{EitherCall, Right}
 use Rattle.deciding.specs.declared.Answer.{Answer}
 use Rattle.records.specs.Bytes.{heldFrom}
 use Rattle.deciding.specs.Replies.{said}
@@ -63,8 +63,8 @@ pub record Theorems (A : Asked) (k : ℕ) (table : List ℕ) (made : Made A k ta
   pub never-14 : (bytes : List ℕ) (letter : ℕ) (a : Answer) (left : List ℕ) → Feeds table bytes letter a left → ¬ (said a ≡ refused 14)
 
 -- They hold of everything that a call may ask.
-abbrev pub Met : Type 0
-Met = (A : Asked) → Proper A → (k : ℕ) (table : List ℕ) (made : Made A k table) → Theorems A k table made
+abbrev pub TheoremsMet : Type 0
+TheoremsMet = (A : Asked) → Proper A → (k : ℕ) (table : List ℕ) (made : Made A k table) → Theorems A k table made
 
 -- DEMAND 3, the whole of it, of what is asked of one plan.
 pub record Demand (A : Asked) : Type 0 where
@@ -74,7 +74,7 @@ pub record Demand (A : Asked) : Type 0 where
   pub prepared : (a : Prepared) (old table old′ letters : List ℕ) → setsFrom + A .means .n * A .means .m ≤ length old
       → A .means .n * A .means .n ≤ length old′ → Prepares A a old table old′ letters → Right (A .means) a
   -- with a loop as evidence, to which the separate check says yes
-  pub evidence : (e : Evidence) (old letters : List ℕ) → Answers A (Unpredictable e) old letters
+  pub evidence : (e : Evidence) (old letters : List ℕ) → EitherCall A (Unpredictable e) old letters
       → (r : Checked) → Checks A e letters r → r ≡ Yes
   -- the count never exceeds n (n - 1) / 2, or n - 1 where there is only one code
   pub bound : (k : ℕ) → Lookahead (A .means) k → k ≤ A .means .n * (A .means .n - 1) / 2

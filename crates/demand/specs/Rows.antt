@@ -9,7 +9,7 @@ use lib.ListN.{length, getD}
 use Rattle.streaming.specs.Calls as reply
 use Rattle.refusals.specs.Outcomes.{refused, answered}
 use Rattle.plan.specs.Bytes.{headerOf, asked}
-use Rattle.samples.specs.Plans.{Sample, bytes, Holds, A, B, C, D, E, F, G, H, C′}
+use Rattle.samples.specs.Plans.{Sample, bytes, AsSaid, A, B, C, D, E, F, G, H, C′}
 use Rattle.table.specs.Table.{setsFrom}
 use Rattle.prepare.specs.declared.Prepared.{Prepared}
 use Rattle.prepare.specs.Preparing.{outcomeOfPrepared, Prepares, CountsTo, Draws}
@@ -76,7 +76,7 @@ pub record RowHolds (plan : List ℕ) (lookahead : Option ℕ) (sayings : List S
 -- The sample holds, and the row.
 abbrev pub AllRows : List Row → Type 0
 AllRows [] = Unit {0}
-AllRows (r ∷ rs) = Holds (r .sample) × RowHolds (bytes (r .sample)) (r .sample .lookahead) (r .sayings) × AllRows rs
+AllRows (r ∷ rs) = AsSaid (r .sample) × RowHolds (bytes (r .sample)) (r .sample .lookahead) (r .sayings) × AllRows rs
 
 abbrev pub row : Sample → List Saying → Row
 row sample sayings = record { sample = sample; sayings = sayings }

@@ -23,7 +23,7 @@ use Rattle.semiautomata.specs.Successors.{place, successors, Fit}
 use Rattle.semiautomata.proofs.Shares.{share-swap, rivals-lt, clash-ordered}
 use Rattle.semiautomata.proofs.Successors.{place-lt, edge-out, edge-is, state-lt, letter-lt, place-of, fit-within}
 use Rattle.rows.specs.Rows.{pair, Put, Common}
-use Rattle.rows.proofs.Places.{zeros-at}
+use Rattle.semiautomata.proofs.Places.{zeros-at}
 use Rattle.pairs.specs.Sharing.{Parted, Lasting}
 use Rattle.pairs.proofs.Starts.{share-starts}
 use Rattle.lookahead.specs.inner.Rivals.{Together, Named, Matched, Rivalry, Endless}

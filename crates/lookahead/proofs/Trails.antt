@@ -21,7 +21,7 @@ use Rattle.semiautomata.specs.Successors.{place}
 use Rattle.semiautomata.proofs.Paths.{path-join}
 use Rattle.semiautomata.proofs.Successors.{place-lt}
 use Rattle.rows.specs.Rows.{pair}
-use Rattle.rows.proofs.Places.{place-same, zeros-at}
+use Rattle.semiautomata.proofs.Places.{place-same, zeros-at}
 
 -- the letters lead from s to u in j steps, and on to x in i steps
 pub record Way (S : Semiautomaton) (s : ℕ) (letters : List ℕ) (j i u x : ℕ) : Type 0 where

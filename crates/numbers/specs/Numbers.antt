@@ -23,9 +23,9 @@ abbrev pub refusing : ℕ → ℕ
 refusing r = 65536 + r
 
 -- A refusal has no further values; each call says how its values are numbered.
-abbrev pub numbered : {A : Type 0} → (A → Numbers) → Outcome A → Numbers
-numbered values (refused r) = valued (refusing r) []
-numbered values (answered v) = values v
+abbrev pub inNumbers : {A : Type 0} → (A → Numbers) → Outcome A → Numbers
+inNumbers values (refused r) = valued (refusing r) []
+inNumbers values (answered v) = values v
 
 -- HOW A CALL PASSES THEM ON
 

@@ -11,11 +11,10 @@ use Rattle.bitset.proofs.Tests.{and-in, not-so}
 use Rattle.bitset.proofs.Below.{any-in, any-cong, with-any}
 use Rattle.bitset.proofs.Bits.{has-and}
 use Rattle.semiautomata.specs.Semiautomaton.{Semiautomaton}
-use Rattle.semiautomata.specs.Successors.{successors}
+use Rattle.semiautomata.specs.Successors.{successors, setAt}
 use Rattle.semiautomata.proofs.Levels.{with-and}
 use Rattle.semiautomata.proofs.Successors.{edge-out, edge-is}
 use Rattle.rows.specs.Rows.{pair}
-use Rattle.rows.specs.Turned.{after}
 use Rattle.pairs.specs.Sharing.{leads, Leads}
 
 module _ (S : Semiautomaton) (rows : List ℕ) (s t : ℕ) where
@@ -32,12 +31,12 @@ module _ (S : Semiautomaton) (rows : List ℕ) (s t : ℕ) where
 
 -- letter a leads them on
 abbrev pub leadsBy : (n m : ℕ) (sets rows : List ℕ) (s t a : ℕ) → Bool
-leadsBy n m sets rows s t a = any n λ r. has (after m sets s a) r && any n λ u. has (after m sets t a) u && pair rows r u
+leadsBy n m sets rows s t a = any n λ r. has (setAt m sets s a) r && any n λ u. has (setAt m sets t a) u && pair rows r u
 
 module _ (n m : ℕ) (sets rows : List ℕ) (s t : ℕ) where
   -- it has come to such a letter
   pub leads-hit : {a r u : ℕ} → s < n → t < n → a < m → r < n → u < n
-      → has (after m sets s a) r ≡ true → has (after m sets t a) u ≡ true → pair rows r u ≡ true
+      → has (setAt m sets s a) r ≡ true → has (setAt m sets t a) u ≡ true → pair rows r u ≡ true
       → let S = successors n m 0 sets in (true ≡ leads S rows s t) × (true ≡ true → Leads S rows s t a r u)
   leads-hit {a} {r} {u} hs ht ha hr hu p q e =
       let l : Leads (successors n m 0 sets) rows s t a r u =

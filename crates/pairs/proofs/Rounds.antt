@@ -18,14 +18,14 @@ use Rattle.bitset.proofs.Below.{any-in, any-out, any-not, any-none, any-cong, w
 use Rattle.bitset.proofs.Bits.{has-empty, has-high, has-setOf, setOf-lt, some-member, fits}
 use Rattle.semiautomata.specs.Semiautomaton.{Semiautomaton, Within}
 use Rattle.semiautomata.specs.Levels.{live, Repeats}
-use Rattle.semiautomata.specs.Successors.{successors, Fit}
+use Rattle.semiautomata.specs.Successors.{successors, Fit, setAt, Blank}
 use Rattle.semiautomata.proofs.Shares.{share-swap, share-shorter}
 use Rattle.semiautomata.proofs.Levels.{with-and, live-in, live-out, live-fixed}
 use Rattle.semiautomata.proofs.Lassos.{share-ever, live-ever}
 use Rattle.semiautomata.proofs.Successors.{edge-out, edge-is, fit-within}
 use Rattle.rows.specs.Rows.{pair, Without, Union, Common, Apart}
-use Rattle.rows.specs.Turned.{after, Blank, Turned}
-use Rattle.rows.proofs.Places.{zeros-at}
+use Rattle.rows.specs.Turned.{Turned}
+use Rattle.semiautomata.proofs.Places.{zeros-at}
 use Rattle.pairs.specs.Sharing.{leads, Sharing, Lasting}
 use Rattle.pairs.specs.inner.Rounds.{Fits, Level, dying, falls, Struck, Paired, Waking}
 use Rattle.pairs.proofs.Leading.{leads-in, leads-out}
@@ -83,7 +83,7 @@ some-pair n p u is few ne =
 
 -- the states that the letter a leads on
 abbrev pub able : (n m : ℕ) (sets : List ℕ) (all a : ℕ) → ℕ
-able n m sets all a = setOf n (λ s. has all s && any n (λ t. has all t && has (after m sets s a) t))
+able n m sets all a = setOf n (λ s. has all s && any n (λ t. has all t && has (setAt m sets s a) t))
 
 module _ (n m : ℕ) (sets : List ℕ) (F : Fit n m sets) where
   abbrev S : Semiautomaton
@@ -215,7 +215,7 @@ module _ (n m : ℕ) (sets : List ℕ) (F : Fit n m sets) where
           let on : leads S next s t ≡ true =
           leads-in S next s t ha hr hu (record { first = l .first; second = l .second; lives = N .is r u hr hu ∙ e }) in
           false≢true (sym y ∙ on) in
-          let comes : (q x : ℕ) → S .edge q a x ≡ true → has (after m back x a) q ≡ true = λ q x e.
+          let comes : (q x : ℕ) → S .edge q a x ≡ true → has (setAt m back x a) q ≡ true = λ q x e.
           let (hq, ha, f) = edge-out n m 0 sets q a x e in rw (T .is x a ha, has-setOf, lt-ltb q n hq) f in
           let gone : pair struck r u ≡ true = E .is r u hr hu ∙ rw (sym (L .is r u hr hu) ∙ l .lives, dead) in
           w .wakes r u a s t hr gone ha (comes s r (l .first)) (comes t u (l .second));

@@ -20,11 +20,10 @@ use Rattle.bitset.proofs.Below.{any-in}
 use Rattle.bitset.proofs.Bits.{has-or, has-and, has-empty, has-shl, has-setOf, has-lt, fits}
 use Rattle.semiautomata.specs.Semiautomaton.{Semiautomaton}
 use Rattle.semiautomata.specs.Walks.{step}
-use Rattle.semiautomata.specs.Successors.{successors, Fit}
+use Rattle.semiautomata.specs.Successors.{successors, Fit, setAt}
 use Rattle.semiautomata.proofs.Successors.{edge-is}
 use Rattle.rows.specs.Rows.{pair, Put}
-use Rattle.rows.specs.Turned.{after}
-use Rattle.rows.proofs.Places.{place-fits, zeros-at}
+use Rattle.semiautomata.proofs.Places.{place-fits, zeros-at}
 use Rattle.pairs.specs.Sharing.{leads}
 use Rattle.pairs.specs.inner.Rounds.{Fits, falls, Struck, Paired, Waking}
 
@@ -99,7 +98,7 @@ module _ (S : Semiautomaton) (live look : List ℕ) where
 -- what a row s wakes
 abbrev Wakes : (m : ℕ) (back struck look : List ℕ) (t a x y s : ℕ) → Type 0
 Wakes m back struck look t a x y s =
-    pair struck s t ≡ true → a < m → has (after m back s a) x ≡ true → has (after m back t a) y ≡ true → pair look x y ≡ true
+    pair struck s t ≡ true → a < m → has (setAt m back s a) x ≡ true → has (setAt m back t a) y ≡ true → pair look x y ≡ true
 
 module _ {m : ℕ} {back struck : List ℕ} where
   pub waking-first : {look : List ℕ} → Waking m back struck look 0
@@ -114,7 +113,7 @@ module _ {m : ℕ} {back struck : List ℕ} where
   }
 
   pub waking-next : {n : ℕ} {look new : List ℕ} {s : ℕ} → Fit n m back → Fits n struck → s < n
-      → Paired look new (after m back s) (λ a. setOf n (step (successors n m 0 back) (has (getD struck s 0)) a)) m
+      → Paired look new (setAt m back s) (λ a. setOf n (step (successors n m 0 back) (has (getD struck s 0)) a)) m
       → Waking m back struck look s → Waking m back struck new (s + 1)
   unfolding step
   waking-next {n} {look} {new} {s} fit below h p k = record {
@@ -122,7 +121,7 @@ module _ {m : ℕ} {back struck : List ℕ} where
         (λ z g f b d e. p .is x y ∙ or-left _ _ (k .wakes z t a x y g f b d e))
         (λ f b d e.
         let ht = has-lt n (getD struck s 0) t (below s h) f in
-        let hy = has-lt n (after m back t a) y (place-fits fit t a ht b) e in
+        let hy = has-lt n (setAt m back t a) y (place-fits fit t a ht b) e in
         let joined : has (setOf n (step (successors n m 0 back) (has (getD struck s 0)) a)) y ≡ true =
         rw (has-setOf, lt-ltb y n hy) (any-in n _ t ht (and-in _ _ f (edge-is n m 0 back t a y ht b ∙ e))) in
         p .is x y ∙ or-right (pair look x y) _ (any-in m _ a b (and-in _ _ d joined))) z;

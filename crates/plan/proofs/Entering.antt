@@ -7,7 +7,7 @@ use mathlib.Core.Logic.{_⊎_, inl, inr}
 use mathlib.Core.List.{List}
 use native.Mathlib.Omega.{arith}
 use native.Mathlib.Numerals.{add-one}
-use native.Mathlib.Nat.{suc-mul, mul-le-mul-right, lt-of-lt-of-le}
+use native.Mathlib.Nat.{lt-of-lt-of-le}
 use native.Mathlib.Decide.{ℕ-discrete}
 use lib.Dec.{eqb, ltb, leb}
 use lib.ListN.{length, getD, set, length-set}
@@ -19,10 +19,10 @@ use Rattle.bitset.specs.Sets.{any, single}
 use Rattle.bitset.specs.Numbers.{has, setOf}
 use Rattle.bitset.proofs.Tests.{decided, and-out, not-so}
 use Rattle.bitset.proofs.Bits.{has-or, has-and, has-empty, has-setOf, has-insert, has-test, shl-one, same-members}
-use Rattle.semiautomata.specs.Successors.{place}
+use Rattle.semiautomata.specs.Successors.{place, Blank}
 use Rattle.semiautomata.proofs.Successors.{place-lt}
+use Rattle.semiautomata.proofs.Places.{size-le, place-same}
 use Rattle.plan.specs.Plan.{Line, Plan, says, semiautomaton, twice, startHigh, startOff, lineFits}
-use Rattle.plan.specs.Loading.{Blank}
 use Rattle.plan.specs.inner.Steps.{StartsEntered, LinesEntered}
 use Rattle.plan.proofs.Tests.{or-none, not-and, not-ltb}
 
@@ -32,10 +32,6 @@ startsTo i P = record { n = P .n; m = P .m; p = i; e = P .e; start = P .start; l
 
 abbrev pub linesTo : ℕ → Plan → Plan
 linesTo i P = record { n = P .n; m = P .m; p = P .p; e = i; start = P .start; line = P .line }
-
--- 2,048 sets are enough
-pub room : {n m : ℕ} → n ≤ 64 → m ≤ 32 → n * m ≤ 2048
-room {n} {m} h g = omega (arith, mul-le-mul-right m h)
 
 -- STARTS
 
@@ -80,21 +76,13 @@ module _ (P : Plan) (states : P .n ≤ 64) {i set : ℕ} {off : Bool} (w : Start
 
 pub lines-none : (P : Plan) {sets : List ℕ} → Blank sets → LinesEntered (linesTo 0 P) sets (record { off = false; twice = false })
 unfolding any
-lines-none P (size, zeros) = record {
-  size = size;
-  below = λ j h. rw zeros (pow-pos (P .n));
-  edges = λ q a t h g k. rw (zeros, has-empty);
+lines-none P b = record {
+  size = b .long;
+  below = λ j h. rw (b .zero) (pow-pos (P .n));
+  edges = λ q a t h g k. rw (b .zero, has-empty);
   off-is = refl;
   twice-is = λ _. refl;
 }
-
--- different states or letters have different places
-place-inj : (m q a q′ a′ : ℕ) → a < m → a′ < m → place m q a ≡ place m q′ a′ → (q ≡ q′) × (a ≡ a′)
-place-inj m q a q′ a′ h g e =
-    let x : ¬ (q < q′) = λ k. omega (arith, mul-le-mul-right m k, suc-mul q m) in
-    let y : ¬ (q′ < q) = λ k. omega (arith, mul-le-mul-right m k, suc-mul q′ m) in
-    let z : q ≡ q′ = omega arith in
-    (z, omega (arith, ap (λ (x : ℕ). x * m) z))
 
 -- what a line says is its numbers
 says-is : (l : Line) (q a t : ℕ) → says l q a t ≡ true → (l .from ≡ q) × (l .letter ≡ a) × (l .to ≡ t)
@@ -152,7 +140,7 @@ module _ (P : Plan) (states : P .n ≤ 64) (letters : P .m ≤ 32) {i : ℕ} {se
 
     -- the place is one of the sets, and the state one of its bits
     pub place-in : (linePlace P l < 2048) × (l .to < 64)
-    place-in = (lt-of-lt-of-le among (room states letters), lt-of-lt-of-le (fits .2) states)
+    place-in = (lt-of-lt-of-le among (size-le states letters), lt-of-lt-of-le (fits .2) states)
 
     inside : linePlace P l < length sets
     inside = rw (w .size) (place-in .0)
@@ -168,7 +156,7 @@ module _ (P : Plan) (states : P .n ≤ 64) (letters : P .m ≤ 32) {i : ℕ} {se
         → has (getD (withLine P l sets) (place (P .m) q a) 0) t ≡ (semiautomaton (linesTo i P) .edge q a t || says l q a t)
     next-edges q a t h g k = elim (ℕ-discrete (place (P .m) q a) (linePlace P l)) [
       | yes e ↦
-          let (x, y) = place-inj (P .m) q a (l .from) (l .letter) g (fits .1) e in
+          let (x, y) = place-same (P .m) q a (l .from) (l .letter) g (fits .1) e in
           rw (
             x,
             y,

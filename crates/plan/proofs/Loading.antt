@@ -7,35 +7,25 @@ use mathlib.Core.Logic.{_⊎_, inl, inr}
 use mathlib.Core.List.{List}
 use native.Mathlib.Omega.{arith}
 use lib.Dec.{ltb}
-use lib.ListN.{length, getD, replicate, getD-replicate, length-replicate, List·getD-eq-default}
+use lib.ListN.{length, getD}
 use borrow.Author.Tests.{lt-ltb, ltb-true, ltb-false}
 use Rattle.bitset.specs.Numbers.{has, setOf}
 use Rattle.bitset.proofs.Tests.{decided, not-so}
 use Rattle.bitset.proofs.Bits.{has-setOf, has-high, setOf-lt}
 use Rattle.semiautomata.specs.Semiautomaton.{Semiautomaton, Within}
 use Rattle.refusals.specs.Checks.{firstOf}
-use Rattle.semiautomata.specs.Successors.{place}
+use Rattle.semiautomata.specs.Successors.{place, Blank}
 use Rattle.semiautomata.proofs.Successors.{place-lt, successors-are}
 use Rattle.plan.specs.declared.Header.{Header}
 use Rattle.plan.specs.declared.Starts.{Starts}
 use Rattle.plan.specs.declared.Lines.{Lines}
 use Rattle.plan.specs.declared.Loaded.the-variants as loaded
 use Rattle.plan.specs.Plan.{Plan, semiautomaton}
-use Rattle.plan.specs.Bytes.{headerOf, parsedBy, headerChecks, partChecks, asked, refusal, counts}
-use Rattle.plan.specs.Loading.{Blank, Holds, Loads}
+use Rattle.plan.specs.Bytes.{headerOf, parsedBy, headerChecks, partChecks, asked, refusal, planCounts}
+use Rattle.plan.specs.Loading.{Holds, Loads}
 use Rattle.plan.specs.inner.Steps.{StartsEntered, LinesEntered}
-use Rattle.plan.proofs.Entering.{room}
+use Rattle.semiautomata.proofs.Places.{size-le}
 use Rattle.plan.proofs.Refusals.{refused-header, refused-parts, well-formed-range, well-formed-within}
-
--- a buffer of zeros
-pub zeros : (k i : ℕ) → _≡_ {A = ℕ} (getD (replicate k 0) i 0) 0
-zeros k i = elim (decided (ltb i k)) [
-  | inl e ↦ getD-replicate k i 0 0 (ltb-true i k e)
-  | inr e ↦ List·getD-eq-default (replicate k 0) 0 (rw length-replicate (ltb-false i k e))
-]
-
-pub blank : Blank (replicate 2048 0)
-blank = (length-replicate {A = ℕ} 2048 0, zeros 2048)
 
 -- WHAT IS ENTERED
 
@@ -50,7 +40,7 @@ module _ (P : Plan) (W : Within (semiautomaton P)) (states : P .n ≤ 64) (lette
       → Holds (semiautomaton P) (P .n) (P .m) (s .set) sets
   holds {sets} s l = rw (s .set-is) (record {
     means = successors-are (semiautomaton P) W _ sets (initial-is W) λ q a t h g. edges q a t h g (decided (ltb t (P .n)));
-    fit = record { states = states; letters = letters; room = rw (l .size) (room states letters); below = l .below };
+    fit = record { states = states; letters = letters; room = rw (l .size) (size-le states letters); below = l .below };
     starts-fit = setOf-lt _ _;
   })
     where
@@ -89,7 +79,7 @@ module _ (plan : List ℕ) {h : Header} (is : h ≡ headerOf plan) where
     pub loads-refused : ¬ (x ≡ 0) → (x ≡ refusal plan) × ¬ (x ≡ 0)
     loads-refused n = (x-refusal, n)
 
-    pub loads-plan : x ≡ 0 → Loads (asked plan) (counts (headerOf plan)) sets (loaded.Plan (h .n) (h .m) (h .p) (h .e) (s .set))
+    pub loads-plan : x ≡ 0 → Loads (asked plan) (planCounts (headerOf plan)) sets (loaded.Plan (h .n) (h .m) (h .p) (h .e) (s .set))
     loads-plan y =
         let w = sym x-refusal ∙ y in
         let r = well-formed-range plan w in

@@ -8,11 +8,11 @@ use native.Mathlib.Omega.{arith}
 use lib.Dec.{eqb}
 use borrow.Author.Tests.{eqb-true, eqb-false, ne-eqb}
 use Rattle.refusals.specs.Outcomes.{Outcome, refused, answered}
-use Rattle.plan.specs.Bytes.{headerOf, refusal, WellFormed, PlanCounts, counts, reading}
+use Rattle.plan.specs.Bytes.{headerOf, refusal, WellFormed, PlanCounts, planCounts, reading}
 
 module _ (plan : List ℕ) where
   abbrev read : Bool → Outcome PlanCounts
-  read b = cond b (answered (counts (headerOf plan))) (refused (refusal plan))
+  read b = cond b (answered (planCounts (headerOf plan))) (refused (refusal plan))
 
   pub reading-refused : {r : ℕ} → refused r ≡ reading plan → (r ≡ refusal plan) × ¬ (r ≡ 0)
   reading-refused {r} e = go (eqb (refusal plan) 0) refl e
@@ -21,10 +21,10 @@ module _ (plan : List ℕ) where
       go true d e = let z : _≡_ {A = ℕ} 0 1 = cc in absurd (omega arith)
       go false d e = let i : r ≡ refusal plan = cc in (i, λ z. eqb-false (refusal plan) 0 d (sym i ∙ z))
 
-  pub reading-well : {v : PlanCounts} → answered v ≡ reading plan → WellFormed plan × (v ≡ counts (headerOf plan))
+  pub reading-well : {v : PlanCounts} → answered v ≡ reading plan → WellFormed plan × (v ≡ planCounts (headerOf plan))
   reading-well {v} e = go (eqb (refusal plan) 0) refl e
     where
-      go : (b : Bool) → eqb (refusal plan) 0 ≡ b → answered v ≡ read b → WellFormed plan × (v ≡ counts (headerOf plan))
+      go : (b : Bool) → eqb (refusal plan) 0 ≡ b → answered v ≡ read b → WellFormed plan × (v ≡ planCounts (headerOf plan))
       go true d e = (eqb-true (refusal plan) 0 d, cc)
       go false d e = let z : _≡_ {A = ℕ} 0 1 = cc in absurd (omega arith)
 
@@ -36,5 +36,5 @@ module _ (plan : List ℕ) where
   pub loaded-refused : {r : ℕ} → (r ≡ refusal plan) × ¬ (r ≡ 0) → refused r ≡ reading plan
   loaded-refused (e, n) = rw (← e, ne-eqb _ _ n)
 
-  pub loaded-counts : {v : PlanCounts} → WellFormed plan → counts (headerOf plan) ≡ v → answered v ≡ reading plan
+  pub loaded-counts : {v : PlanCounts} → WellFormed plan → planCounts (headerOf plan) ≡ v → answered v ≡ reading plan
   loaded-counts w e = rw (w, e)

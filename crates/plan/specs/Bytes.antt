@@ -108,8 +108,8 @@ abbrev pub outcomeOfReading : Reading → Outcome PlanCounts
 outcomeOfReading (Counts n m p e) = answered (record { n = n; m = m; p = p; e = e })
 outcomeOfReading (Refused r) = refused r
 
-abbrev pub counts : Header → PlanCounts
-counts h = record { n = h .n; m = h .m; p = h .p; e = h .e }
+abbrev pub planCounts : Header → PlanCounts
+planCounts h = record { n = h .n; m = h .m; p = h .p; e = h .e }
 
 abbrev pub reading : List ℕ → Outcome PlanCounts
-reading plan = cond (eqb (refusal plan) 0) (answered (counts (headerOf plan))) (refused (refusal plan))
+reading plan = cond (eqb (refusal plan) 0) (answered (planCounts (headerOf plan))) (refused (refusal plan))

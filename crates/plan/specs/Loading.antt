@@ -3,17 +3,13 @@
 use Prim.Native.Nat.{ℕ, _^_, _<_}
 use mathlib.Core.Path.{_≡_}
 use mathlib.Core.List.{List}
-use lib.ListN.{length, getD}
+use lib.ListN.{length}
 use Rattle.semiautomata.specs.Semiautomaton.{Semiautomaton}
 use Rattle.semiautomata.specs.Successors.{successors, Fit}
 use Rattle.plan.specs.declared.Loaded.{Loaded}
 use Rattle.plan.specs.declared.Loaded.the-variants.{Plan, Refused}
 use Rattle.plan.specs.Asked.{Asked, refusalOf, Passes}
 use Rattle.plan.specs.Bytes.{PlanCounts}
-
--- Room for the largest plan's sets, all empty.
-abbrev pub Blank : List ℕ → Type 0
-Blank sets = (length sets ≡ 2048) × ((i : ℕ) → getD sets i 0 ≡ 0)
 
 -- The numbers hold S: its counts, its initial states and its successor sets.
 pub record Holds (S : Semiautomaton) (n m starts : ℕ) (sets : List ℕ) : Type 0 where

@@ -6,8 +6,9 @@ ghost use Prim.Native.Nat.{_+_, _≤_, _<_};
 ghost use lib.ListN.{length};
 ghost use Rattle.refusals.specs.Checks.{firstOf};
 ghost use Rattle.plan.specs.Plan.{countOff};
-ghost use Rattle.plan.specs.Bytes.{headerOf, parsedBy, misplaced, headerChecks, asked, outcomeOfReading, counts, reading};
-ghost use Rattle.plan.specs.Loading.{Blank, Loads};
+ghost use Rattle.plan.specs.Bytes.{headerOf, parsedBy, misplaced, headerChecks, asked, outcomeOfReading, planCounts, reading};
+ghost use Rattle.semiautomata.specs.Successors.{Blank};
+ghost use Rattle.plan.specs.Loading.{Loads};
 ghost use Rattle.plan.specs.inner.Steps.{Sound, StartsEntered, LinesEntered};
 use semiautomata::MAX_LETTERS;
 use semiautomata::MAX_LINES;
@@ -195,7 +196,7 @@ fn first_of_parts(start: bool, line: bool, again: bool) -> u8
 // What a plan means, in sets lent empty: its initial states are answered with its counts. Or its lowest refusal.
 pub fn load(plan: &[u8], sets: &mut [u64; semiautomata::MAX_SETS]) -> Loaded
     requires { ⌜ Blank (now sets) ⌝ }
-    ensures { λ r. ⌜ Loads (asked (now (plan .entry))) (counts (headerOf (now (plan .entry)))) (now (sets .exit)) r ⌝ }
+    ensures { λ r. ⌜ Loads (asked (now (plan .entry))) (planCounts (headerOf (now (plan .entry)))) (now (sets .exit)) r ⌝ }
 {
     if plan.len() < 16 {
         return Loaded::Refused(1);

@@ -15,13 +15,13 @@ use Rattle.claim.specs.Checking.{Checks, outcomeOfChecked}
 use Rattle.prepare.specs.declared.Prepared.{Prepared}
 use Rattle.prepare.specs.declared.Prepared.the-variants.{Ready, Refused, Unpredictable}
 use Rattle.prepare.specs.Preparing.{Prepares, CountsTo, outcomeOfPrepared, asNumber}
-use Rattle.numbers.specs.Numbers.{Numbers, valued, numbered, Passed, PassesOn}
+use Rattle.numbers.specs.Numbers.{Numbers, valued, inNumbers, Passed, PassesOn}
 
 -- THE NUMBERS OF EACH OUTCOME
 
 -- n; m, p and e.
 abbrev pub ofReading : Reading → Numbers
-ofReading a = numbered (λ c. valued (c .n) (c .m ∷ c .p ∷ c .e ∷ [])) (outcomeOfReading a)
+ofReading a = inNumbers (λ c. valued (c .n) (c .m ∷ c .p ∷ c .e ∷ [])) (outcomeOfReading a)
 
 -- k; under 15 the evidence.
 abbrev pub evidenceOf : Prepared → List ℕ
@@ -34,7 +34,7 @@ ofPrepared a = valued (asNumber (outcomeOfPrepared a)) (evidenceOf a)
 
 -- 1 for yes, 0 for no.
 abbrev pub ofChecked : Checked → Numbers
-ofChecked a = numbered (λ yes. valued (one-if yes) []) (outcomeOfChecked a)
+ofChecked a = inNumbers (λ yes. valued (one-if yes) []) (outcomeOfChecked a)
 
 -- THE PROMISES
 

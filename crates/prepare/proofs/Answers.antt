@@ -18,7 +18,7 @@ use Rattle.table.specs.Table.{laidOut}
 use Rattle.table.proofs.Form.{Reads, form-reads}
 use Rattle.prepare.specs.declared.Prepared.{Prepared}
 use Rattle.prepare.specs.Preparing.{shortTable, shortLetters, Prepares, CountsTo}
-use Rattle.prepare.specs.inner.Steps.{Held, plain}
+use Rattle.prepare.specs.inner.Steps.{Held, unchecked}
 use Rattle.plan.proofs.Asked.{refused-passing}
 use Rattle.prepare.proofs.Refusals.{square}
 
@@ -36,11 +36,11 @@ small {S} z k a = omega (arith, lookahead-bound S (z .within) k a, square (z .n-
 
 module _ {n m starts : ℕ} {sets : List ℕ} (h : Held n m starts sets) where
   -- nothing is checked
-  pub held-proper : Proper (plain (successors n m starts sets))
+  pub held-proper : Proper (unchecked (successors n m starts sets))
   unfolding refusalOf
   held-proper = record { numbered = refl; other = λ e. omega arith; sized = λ _. h .sized }
 
-  pub held-passes : Passes (plain (successors n m starts sets))
+  pub held-passes : Passes (unchecked (successors n m starts sets))
   unfolding refusalOf
   held-passes = refl
 
@@ -50,19 +50,19 @@ module _ (A : Asked) (P : Proper A) (w : Passes A) {n m starts : ℕ} {sets : Li
   is-held = record { fit = h .fit; starts-fit = h .starts-fit; sized = rw (h .means) (P .sized w) }
 
   -- 9 is all that is left
-  left : (b : Bool) → refusalWith A b ≡ refusalWith (plain (A .means)) b
+  left : (b : Bool) → refusalWith A b ≡ refusalWith (unchecked (A .means)) b
   unfolding refusalWith
   left b = refused-passing A P w b
 
-  pub counts-asked : (a : Prepared) (old letters : List ℕ) → CountsTo (plain (successors n m starts sets)) a old letters
+  pub counts-asked : (a : Prepared) (old letters : List ℕ) → CountsTo (unchecked (successors n m starts sets)) a old letters
       → CountsTo A a old letters
   counts-asked a old letters c =
-      let d = subst (λ (S : Semiautomaton). CountsTo (plain S) a old letters) (h .means) c in
+      let d = subst (λ (S : Semiautomaton). CountsTo (unchecked S) a old letters) (h .means) c in
       rw (left (shortLetters (A .means) (length old))) d
 
   pub prepares-asked : (a : Prepared) (old table old′ letters : List ℕ)
-      → Prepares (plain (successors n m starts sets)) a old table old′ letters
+      → Prepares (unchecked (successors n m starts sets)) a old table old′ letters
       → Prepares A a old table old′ letters
   prepares-asked a old table old′ letters c =
-      let d = subst (λ (S : Semiautomaton). Prepares (plain S) a old table old′ letters) (h .means) c in
+      let d = subst (λ (S : Semiautomaton). Prepares (unchecked S) a old table old′ letters) (h .means) c in
       rw (left (shortTable (A .means) (length old) || shortLetters (A .means) (length old′))) d

@@ -22,7 +22,7 @@ use Rattle.claim.specs.declared.Checked.the-variants.{Yes, No, Refused}
 use Rattle.prepare.specs.Preparing.{Shown, Prepares, CountsTo}
 use Rattle.prepare.specs.declared.Prepared.{Prepared}
 use Rattle.claim.specs.Checking.{Checks}
-use Rattle.prepare.specs.Theorems.{Answers, Right, Theorems, Met}
+use Rattle.prepare.specs.Theorems.{EitherCall, Right, Theorems, Met}
 use Rattle.prepare.proofs.Answers.{sized-reads}
 use Rattle.prepare.proofs.Promises.{shown-never, count-refused-so, count-never-so, prepare-refused-so, prepare-never-so}
 use Rattle.plan.proofs.Asked.{clear-passes}
@@ -31,22 +31,22 @@ use Rattle.prepare.proofs.Refusals.{count-clear, prepare-clear}
 module _ (A : Asked) (P : Proper A) where
   -- what an answer tells, whichever call gave it
   module _ {old letters : List ℕ} where
-    ready : {k : ℕ} → Answers A (prepared.Ready k) old letters → Passes A × Lookahead (A .means) k
+    ready : {k : ℕ} → EitherCall A (prepared.Ready k) old letters → Passes A × Lookahead (A .means) k
     ready (inl ((p, a), _)) = (clear-passes A P _ p, a)
     ready (inr (_, _, ((p, a), _, _))) = (clear-passes A P _ p, a)
 
-    never : {e : Evidence} → Answers A (prepared.Unpredictable e) old letters → Passes A × Shown (A .means) e old letters
+    never : {e : Evidence} → EitherCall A (prepared.Unpredictable e) old letters → Passes A × Shown (A .means) e old letters
     never (inl c) = let (p, s) = count-never-so A P c in (clear-passes A P _ p, s)
     never (inr (_, _, c)) = let (p, s, _) = prepare-never-so A P c in (clear-passes A P _ p, s)
 
-  passes : (e : Evidence) (old letters : List ℕ) → Answers A (prepared.Unpredictable e) old letters → (r : Checked)
+  passes : (e : Evidence) (old letters : List ℕ) → EitherCall A (prepared.Unpredictable e) old letters → (r : Checked)
       → Checks A e letters r → r ≡ Yes
   passes e old letters s (Refused r) (a, n, _) = absurd (n (a ∙ never s .0))
   passes e old letters s Yes _ = refl
   passes e old letters s No (_, (_, n)) = absurd (false≢true (n (never s .1 .claimed)))
 
   -- an answer that is no refusal is right
-  right : (a : Prepared) (old letters : List ℕ) → ((r : ℕ) → ¬ (a ≡ prepared.Refused r)) → Answers A a old letters → Right (A .means) a
+  right : (a : Prepared) (old letters : List ℕ) → ((r : ℕ) → ¬ (a ≡ prepared.Refused r)) → EitherCall A a old letters → Right (A .means) a
   right (prepared.Refused r) old letters n c = absurd (n r refl)
   right (prepared.Ready j) old letters n c =
       let l = ready c .1 in record {

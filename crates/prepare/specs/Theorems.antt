@@ -20,8 +20,8 @@ use Rattle.prepare.specs.Preparing.{outcomeOfPrepared, Prepares, CountsT
 use Rattle.claim.specs.Checking.{Checks}
 
 -- Preparing or the count call gives this answer and leaves these letters; which numbers preparing was lent does not matter here.
-abbrev pub Answers : Asked → Prepared → List ℕ → List ℕ → Type 0
-Answers A a old letters = CountsTo A a old letters ⊎ ((old′ : List ℕ) × (table : List ℕ) × Prepares A a old′ table old letters)
+abbrev pub EitherCall : Asked → Prepared → List ℕ → List ℕ → Type 0
+EitherCall A a old letters = CountsTo A a old letters ⊎ ((old′ : List ℕ) × (table : List ℕ) × Prepares A a old′ table old letters)
 
 -- The answer is right: k exactly if k is the look-ahead, and 15 exactly if there is none.
 pub record Right (S : Semiautomaton) (a : Prepared) : Type 0 where
@@ -30,9 +30,9 @@ pub record Right (S : Semiautomaton) (a : Prepared) : Type 0 where
 
 pub record Theorems (A : Asked) : Type 0 where
   -- any two calls agree: the same k, or 15 from both
-  pub same-k : (k j : ℕ) (old letters old′ letters′ : List ℕ) → Answers A (Ready k) old letters → Answers A (Ready j) old′ letters′ → j ≡ k
-  pub not-both : (k : ℕ) (e : Evidence) (old letters old′ letters′ : List ℕ) → Answers A (Ready k) old letters
-      → ¬ Answers A (Unpredictable e) old′ letters′
+  pub same-k : (k j : ℕ) (old letters old′ letters′ : List ℕ) → EitherCall A (Ready k) old letters → EitherCall A (Ready j) old′ letters′ → j ≡ k
+  pub not-both : (k : ℕ) (e : Evidence) (old letters old′ letters′ : List ℕ) → EitherCall A (Ready k) old letters
+      → ¬ EitherCall A (Unpredictable e) old′ letters′
   -- the table that preparing leaves is fit, means what was asked and has its look-ahead
   pub table-reads : (k : ℕ) (old table old′ letters : List ℕ) → Prepares A (Ready k) old table old′ letters
       → (unfit table ≡ false) × (tableMeaning table ≡ A .means) × (lookaheadOf table ≡ k)
@@ -42,13 +42,13 @@ pub record Theorems (A : Asked) : Type 0 where
   pub prepared-right : Passes A → (a : Prepared) (old table old′ letters : List ℕ) → setsFrom + A .means .n * A .means .m ≤ length old
       → A .means .n * A .means .n ≤ length old′ → Prepares A a old table old′ letters → Right (A .means) a
   -- whatever is lent, 15 and k are never said in vain
-  pub never-so : (e : Evidence) (old letters : List ℕ) → Answers A (Unpredictable e) old letters → predictability.Unpredictable (A .means)
-  pub ready-so : (k : ℕ) (old letters : List ℕ) → Answers A (Ready k) old letters → predictability.Lookahead (A .means) k
+  pub never-so : (e : Evidence) (old letters : List ℕ) → EitherCall A (Unpredictable e) old letters → predictability.Unpredictable (A .means)
+  pub ready-so : (k : ℕ) (old letters : List ℕ) → EitherCall A (Ready k) old letters → predictability.Lookahead (A .means) k
   -- both bounds of k
-  pub bound : (k : ℕ) (old letters : List ℕ) → Answers A (Ready k) old letters → k ≤ A .means .n * (A .means .n - 1) / 2
-  pub bound-one-letter : A .means .m ≡ 1 → (k : ℕ) (old letters : List ℕ) → Answers A (Ready k) old letters → k ≤ A .means .n - 1
+  pub bound : (k : ℕ) (old letters : List ℕ) → EitherCall A (Ready k) old letters → k ≤ A .means .n * (A .means .n - 1) / 2
+  pub bound-one-letter : A .means .m ≡ 1 → (k : ℕ) (old letters : List ℕ) → EitherCall A (Ready k) old letters → k ≤ A .means .n - 1
   -- the evidence that is answered passes the check
-  pub evidence-passes : (e : Evidence) (old letters : List ℕ) → Answers A (Unpredictable e) old letters → (r : Checked)
+  pub evidence-passes : (e : Evidence) (old letters : List ℕ) → EitherCall A (Unpredictable e) old letters → (r : Checked)
       → Checks A e letters r → r ≡ Yes
 
 -- They hold of everything that a call may ask, so of all plan bytes (plan/specs/Theorems, `proper`).

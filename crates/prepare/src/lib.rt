@@ -3,7 +3,7 @@
 ghost use Rattle.semiautomata.specs.Successors.{successors};
 ghost use Rattle.plan.specs.Bytes.{asked};
 ghost use Rattle.prepare.specs.Preparing.{Prepares, CountsTo};
-ghost use Rattle.prepare.specs.inner.Steps.{Held, plain};
+ghost use Rattle.prepare.specs.inner.Steps.{Held, unchecked};
 use lookahead::Evidence;
 use lookahead::Found;
 use plan::Loaded;
@@ -18,7 +18,7 @@ pub enum Prepared {
 // The look-ahead of loaded sets, once the letters are judged.
 fn count_loaded(sets: &[u64], n: usize, m: usize, starts: u64, letters: &mut [u8]) -> Prepared
     requires { ⌜ Held n m starts (now sets) ⌝ }
-    ensures { λ r. ⌜ CountsTo (plain (successors n m starts (now (sets .entry)))) r (now (letters .entry)) (now (letters .exit)) ⌝ }
+    ensures { λ r. ⌜ CountsTo (unchecked (successors n m starts (now (sets .entry)))) r (now (letters .entry)) (now (letters .exit)) ⌝ }
 {
     if letters.len() < n * n {
         return Prepared::Refused(9);
@@ -40,7 +40,7 @@ fn prepare_loaded(
     letters: &mut [u8],
 ) -> Prepared
     requires { ⌜ Held n m starts (now sets) ⌝ }
-    ensures { λ r. ⌜ Prepares (plain (successors n m starts (now (sets .entry)))) r (now (table .entry)) (now (table .exit))
+    ensures { λ r. ⌜ Prepares (unchecked (successors n m starts (now (sets .entry)))) r (now (table .entry)) (now (table .exit))
         (now (letters .entry)) (now (letters .exit)) ⌝ }
 {
     if table.len() < table::SETS_FROM + n * m {

@@ -10,7 +10,7 @@ use Rattle.deciding.specs.declared.Answer.{Answer}
 use Rattle.deciding.specs.Replies.{said}
 use Rattle.predictor.specs.declared.Ended.{Ended}
 use Rattle.predictor.specs.Calls.{outcomeOfEnded, Opens, Feeds, Ends}
-use Rattle.numbers.specs.Numbers.{Numbers, valued, refusing, numbered, Passed, PassesOn}
+use Rattle.numbers.specs.Numbers.{Numbers, valued, refusing, inNumbers, Passed, PassesOn}
 
 -- THE NUMBERS OF EACH OUTCOME
 
@@ -25,7 +25,7 @@ ofAnswer a = ofReply (said a)
 
 -- How many positions are not booked.
 abbrev pub ofEnded : Ended → Numbers
-ofEnded a = numbered (λ count. valued count []) (outcomeOfEnded a)
+ofEnded a = inNumbers (λ count. valued count []) (outcomeOfEnded a)
 
 -- THE PROMISES
 

@@ -18,11 +18,10 @@ use Rattle.bitset.proofs.Tests.{and-out, not-so}
 use Rattle.bitset.proofs.Bits.{has-or, has-empty}
 use Rattle.bitset.proofs.Members.{has-strike}
 use Rattle.bitset.proofs.Taking.{Left, least-in, taken}
-use Rattle.semiautomata.specs.Successors.{place}
+use Rattle.semiautomata.specs.Successors.{place, setAt}
 use Rattle.rows.specs.Rows.{Put}
-use Rattle.rows.specs.Turned.{after}
 use Rattle.rows.specs.inner.Joined.{JoinedAt}
-use Rattle.rows.proofs.Places.{place-same}
+use Rattle.semiautomata.proofs.Places.{place-same}
 
 struck : (h r b : Bool) → (b ≡ true → h ≡ true) → (h && not (r && not b)) ≡ (h && not r || b)
 struck h r true f = rw (f refl, and-false, or-true)
@@ -35,8 +34,8 @@ joining-first width at firsts seconds old = record { long = refl; is = λ s b t 
 module _ {width at : ℕ} (h : at < width) where
   -- one place is joined with the seconds
   join-place : (rows : List ℕ) (z seconds s b t : ℕ) → b < width → place width z at < length rows
-      → has (after width (set rows (place width z at) (bitOr (after width rows z at) seconds)) s b) t
-      ≡ (has (after width rows s b) t || (eqb at b && eqb z s) && has seconds t)
+      → has (setAt width (set rows (place width z at) (bitOr (setAt width rows z at) seconds)) s b) t
+      ≡ (has (setAt width rows s b) t || (eqb at b && eqb z s) && has seconds t)
   join-place rows z seconds s b t g r = elim (ℕ-discrete (place width s b) (place width z at)) [
     | yes q ↦
         let (e, d) = place-same width s b z at g h q in

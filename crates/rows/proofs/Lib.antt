@@ -1,4 +1,3 @@
-pub mod Places
 pub mod Joining
 pub mod Turning
 pub mod Removing

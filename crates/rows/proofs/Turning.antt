@@ -14,16 +14,16 @@ use borrow.Author.Tests.{ltb-true, lt-ltb, le-ltb, eqb-true, eq-eqb}
 use Rattle.bitset.specs.Numbers.{has}
 use Rattle.bitset.proofs.Tests.{and-out, not-so, same-test}
 use Rattle.bitset.proofs.Bits.{has-empty, has-setOf, has-shl, same-members, setOf-lt}
-use Rattle.semiautomata.specs.Successors.{place, Fit}
+use Rattle.semiautomata.specs.Successors.{place, Fit, setAt, Blank}
 use Rattle.semiautomata.proofs.Successors.{place-lt, place-of, letter-lt}
-use Rattle.rows.specs.Turned.{after, Blank, Turned}
+use Rattle.rows.specs.Turned.{Turned}
 use Rattle.rows.specs.inner.Joined.{JoinedAt}
-use Rattle.rows.proofs.Places.{place-same, size-le}
+use Rattle.semiautomata.proofs.Places.{place-same, size-le}
 
 -- the sets of the first i places are turned round
 pub record Turning (m i : ℕ) (sets back : List ℕ) : Type 0 where
   pub long : length back ≡ 2048
-  pub is : (r b x : ℕ) → b < m → has (after m back r b) x ≡ (ltb (place m x b) i && has (after m sets x b) r)
+  pub is : (r b x : ℕ) → b < m → has (setAt m back r b) x ≡ (ltb (place m x b) i && has (setAt m sets x b) r)
 
 module _ {m : ℕ} {sets : List ℕ} where
   pub turning-first : {back : List ℕ} → Blank back → Turning m (place m 0 0) sets back
@@ -32,7 +32,7 @@ module _ {m : ℕ} {sets : List ℕ} where
     is = λ r b x h. rw (k .zero (place m r b), has-empty, le-ltb (place m x b) (place m 0 0) (omega arith));
   }
 
-  pub turning-next : {old new : List ℕ} {s a : ℕ} → s < 64 → a < m → JoinedAt m a (has (after m sets s a)) ((1 * 2 ^ s) % 2 ^ 64) old new
+  pub turning-next : {old new : List ℕ} {s a : ℕ} → s < 64 → a < m → JoinedAt m a (has (setAt m sets s a)) ((1 * 2 ^ s) % 2 ^ 64) old new
       → Turning m (place m s a) sets old → Turning m (place m s (a + 1)) sets new
   turning-next {old} {new} {s} {a} hs ha j k = record {
     long = j .long ∙ k .long;
@@ -43,9 +43,9 @@ module _ {m : ℕ} {sets : List ℕ} where
           let next = lt-ltb i (s * m + (a + 1)) (omega arith) in
           rw (e, d, le-ltb i i (omega arith), next, eq-eqb a a refl, eq-eqb s s refl, and-true)
       | no q ↦
-          let none : ((eqb a b && has (after m sets s a) r) && eqb s x) ≡ false = not-so _ λ e.
+          let none : ((eqb a b && has (setAt m sets s a) r) && eqb s x) ≡ false = not-so _ λ e.
           let (y, z) = and-out _ (eqb s x) e in
-          q (rw (eqb-true a b (and-out (eqb a b) (has (after m sets s a) r) y .0), eqb-true s x z)) in
+          q (rw (eqb-true a b (and-out (eqb a b) (has (setAt m sets s a) r) y .0), eqb-true s x z)) in
           let same : ltb (place m x b) (s * m + (a + 1)) ≡ ltb (place m x b) (place m s a) = same-test _ _
           (λ e. let l = ltb-true (place m x b) _ e in lt-ltb (place m x b) _ (omega arith))
           (λ e. let l = ltb-true (place m x b) _ e in lt-ltb (place m x b) _ (omega arith)) in

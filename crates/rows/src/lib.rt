@@ -5,9 +5,9 @@ ghost use mathlib.Core.Path.{_≡_};
 ghost use Prim.Native.Nat.{ℕ, _≤_, _<_};
 ghost use lib.ListN.{length};
 ghost use Rattle.bitset.specs.Numbers.{has};
-ghost use Rattle.semiautomata.specs.Successors.{place, Fit};
+ghost use Rattle.semiautomata.specs.Successors.{place, Fit, Blank};
 ghost use Rattle.rows.specs.Rows.{Put, Without, Union, Searched};
-ghost use Rattle.rows.specs.Turned.{Blank, Turned};
+ghost use Rattle.rows.specs.Turned.{Turned};
 ghost use Rattle.rows.specs.inner.Joined.{JoinedAt};
 
 // Each of the firsts has a place among `width` of its own, `at`: the seconds are joined to what stands there.

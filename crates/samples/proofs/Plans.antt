@@ -17,7 +17,7 @@ use Rattle.semiautomata.specs.Lists.{range}
 use Rattle.plan.specs.Asked.{refusalOf}
 use Rattle.plan.specs.Bytes.{parsed, meaning, planChecks, refusal, WellFormed}
 use Rattle.plan.proofs.Refusals.{well-formed-within}
-use Rattle.samples.specs.Plans.{Sample, bytes, A, B, C, D, E, F, G, H, C′, samples, Ahead, ReadBack, Holds, All, Theorems}
+use Rattle.samples.specs.Plans.{Sample, bytes, A, B, C, D, E, F, G, H, C′, samples, Ahead, ReadBack, AsSaid, All, Theorems}
 
 -- the test of a look-ahead: no clash at k, one at k - 1; or one at n × n
 abbrev pub ahead : Semiautomaton → Option ℕ → Bool
@@ -39,7 +39,7 @@ abbrev all : List Sample → Bool
 all [] = true
 all (s ∷ ss) = passes s && all ss
 
-holds : (s : Sample) → ReadBack (s .plan) (parsed (bytes s)) → passes s ≡ true → Holds s
+holds : (s : Sample) → ReadBack (s .plan) (parsed (bytes s)) → passes s ≡ true → AsSaid s
 holds s r = with-and (eqb (refusal (bytes s)) 0) _ λ a b.
     let w : WellFormed (bytes s) = eqb-true (refusal (bytes s)) 0 a in
     record { read-back = r; well-formed = w; ahead = ahead-so (meaning (bytes s)) (well-formed-within (bytes s) w) (s .lookahead) b }

@@ -71,14 +71,14 @@ pub record ReadBack (P : Listed) (plan : Plan) : Type 0 where
   pub lines : map (plan .line) (range 0 (plan .e)) ≡ P .lines
 
 -- The plan is read back as it is listed, is well formed, and has that look-ahead or none.
-pub record Holds (s : Sample) : Type 0 where
+pub record AsSaid (s : Sample) : Type 0 where
   pub read-back : ReadBack (s .plan) (parsed (bytes s))
   pub well-formed : WellFormed (bytes s)
   pub ahead : Ahead (meaning (bytes s)) (s .lookahead)
 
 abbrev pub All : List Sample → Type 0
 All [] = Unit {0}
-All (s ∷ ss) = Holds s × All ss
+All (s ∷ ss) = AsSaid s × All ss
 
 -- What is proved: of every sample, and that plan A is document 01's to the byte.
 pub record Theorems : Type 0 where

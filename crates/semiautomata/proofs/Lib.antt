@@ -10,4 +10,5 @@ pub mod Computed
 pub mod Positions
 pub mod Selectors
 pub mod Successors
+pub mod Places
 pub mod Theorems

@@ -2,6 +2,7 @@
 -- Assumes nothing.
 use Prim.Native.Nat.{ℕ, _+_, _*_, _^_, _≤_, _<_}
 use mathlib.Core.Bool.{_&&_}
+use mathlib.Core.Path.{_≡_}
 use mathlib.Core.List.{List}
 use lib.Dec.{ltb}
 use lib.ListN.{length, getD}
@@ -13,12 +14,16 @@ use Rattle.semiautomata.specs.Sizes.{maxStates, maxLetters}
 abbrev pub place : ℕ → ℕ → ℕ → ℕ
 place m q a = q * m + a
 
+-- .. and these states, as a number
+abbrev pub setAt : ℕ → List ℕ → ℕ → ℕ → ℕ
+setAt m sets q a = getD sets (place m q a) 0
+
 abbrev pub successors : ℕ → ℕ → ℕ → List ℕ → Semiautomaton
 successors n m starts sets = record {
   n = n;
   m = m;
   initial = has starts;
-  edge = λ q a t. ltb q n && (ltb a m && has (getD sets (place m q a) 0) t);
+  edge = λ q a t. ltb q n && (ltb a m && has (setAt m sets q a) t);
 }
 
 -- The sets are sets of states below n: at most 64 states and 32 letters, a set for each state and letter, and no bit n or higher.
@@ -27,3 +32,8 @@ pub record Fit (n m : ℕ) (sets : List ℕ) : Type 0 where
   pub letters : m ≤ maxLetters
   pub room : n * m ≤ length sets
   pub below : (i : ℕ) → i < n * m → getD sets i 0 < 2 ^ n
+
+-- Room for the sets of the largest plan, all of them empty.
+pub record Blank (sets : List ℕ) : Type 0 where
+  pub long : length sets ≡ maxStates * maxLetters
+  pub zero : (i : ℕ) → getD sets i 0 ≡ 0

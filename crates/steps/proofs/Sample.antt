@@ -30,7 +30,7 @@ use Rattle.slices.specs.Copying.{pasted}
 use Rattle.text.specs.Report.{noPlan}
 use Rattle.text.specs.Calls.{openOn, Begins, FeedsPart, unpredictable, opens}
 use Rattle.steps.specs.Steps.{Runs, over, on, reads-on, begins, begins-last, feeds, finishes}
-use Rattle.steps.specs.Theorems.{zeroTable, zeroRecord, sample, refusedSample}
+use Rattle.steps.specs.Theorems.{zeroTable, zeroRecord, sampleInput, refusedSample}
 use Rattle.lines.proofs.Lines.{appended-long}
 use Rattle.lines.proofs.Widths.{counts-width, lookahead-width, refused-width, resolution-width}
 use Rattle.text.proofs.Agreeing.{opened-goes}
@@ -150,7 +150,7 @@ fed-one =
     (_, _, (omega arith, fed, laid))
 
 -- read in parts of 16, 10, 2 and 1 bytes, and once more at its end
-pub sample-runs : (text : List ℕ) × Runs (Plan 0 16) [] zeroTable zeroRecord sample text
+pub sample-runs : (text : List ℕ) × Runs (Plan 0 16) [] zeroTable zeroRecord sampleInput text
 sample-runs = (
   _,
   on {stage = Plan 0 16} {seen = []} {old = lines} A1 (A2 ++ two ++ one) (λ z. absurd (omega arith)) (omega arith)

@@ -18,7 +18,7 @@ use Rattle.steps.specs.declared.Stage.the-variants.{Plan}
 use Rattle.text.specs.Report.{noPlan, openLines, openText, walkText, plainText, AfterLookahead, no-start, walked}
 use Rattle.text.specs.Report.{AfterCounts, never, predicts, Reports, no-plan, ill-formed, well-formed}
 use Rattle.steps.specs.Steps.{Runs}
-use Rattle.steps.specs.Theorems.{sample, sampleText, refusedSample, refusedText, zeroTable, zeroRecord, Theorems}
+use Rattle.steps.specs.Theorems.{sampleInput, sampleText, refusedSample, refusedText, zeroTable, zeroRecord, Theorems}
 use Rattle.steps.proofs.Running.{run-reports}
 use Rattle.steps.proofs.Sample.{sample-runs, refused-runs}
 
@@ -51,14 +51,14 @@ one-report (well-formed _ _ a) (well-formed _ _ b) = rw (one-counted a b)
 
 -- THE SAMPLE
 
-sample-printed : Reports sample sampleText
+sample-printed : Reports sampleInput sampleText
 unfolding noPlan digits decimal field countsLine lookaheadLine resolutionLine listed openLine openLines openText walkText plainText limit stateAt plainReply plainFeed followed unresolved possible walkable spells step any least has setOf
 sample-printed = let a = samples-hold .0 in well-formed refl (a .well-formed) (predicts 1 (a .ahead) (walked 0 refl))
 
-sample-run : Runs (Plan 0 16) [] zeroTable zeroRecord sample sampleText
+sample-run : Runs (Plan 0 16) [] zeroTable zeroRecord sampleInput sampleText
 sample-run =
     let (text, run) = sample-runs in
-    rw (one-report (run-reports zeroTable zeroRecord sample text run) sample-printed) at run
+    rw (one-report (run-reports zeroTable zeroRecord sampleInput text run) sample-printed) at run
 
 -- PLAN B
 

@@ -11,8 +11,8 @@ use Rattle.text.specs.Calls.{tableSize, recordSize}
 use Rattle.steps.specs.Steps.{Runs}
 
 -- Plan A and three letters, the sample of document 01, and its six lines.
-abbrev pub sample : List ℕ
-sample = bytes A ++ (0 ∷ 0 ∷ 0 ∷ [])
+abbrev pub sampleInput : List ℕ
+sampleInput = bytes A ++ (0 ∷ 0 ∷ 0 ∷ [])
 
 abbrev pub sampleText : List ℕ
 sampleText =
@@ -57,7 +57,7 @@ pub record Theorems (input : List ℕ) : Type 0 where
   -- an input has one report
   pub unique : (a b : List ℕ) → Reports input a → Reports input b → a ≡ b
   -- the sample has its six lines
-  pub sample-printed : Reports sample sampleText
+  pub sample-printed : Reports sampleInput sampleText
   -- runs there are: of the sample, from the program's own table and record, to those six lines, and of plan B, which ends with line 2
-  pub sample-run : Runs (Plan 0 16) [] zeroTable zeroRecord sample sampleText
+  pub sample-run : Runs (Plan 0 16) [] zeroTable zeroRecord sampleInput sampleText
   pub refused-run : Runs (Plan 0 16) [] zeroTable zeroRecord refusedSample refusedText

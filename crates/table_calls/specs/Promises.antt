@@ -10,17 +10,17 @@ use Rattle.simulate.specs.declared.Walked.{Walked}
 use Rattle.simulate.specs.Walking.{Walks, outcomeOfWalked}
 use Rattle.simulate.specs.declared.Judged.{Judged}
 use Rattle.simulate.specs.Verdicts.{Judges, outcomeOfJudged}
-use Rattle.numbers.specs.Numbers.{Numbers, valued, numbered, PassesOn}
+use Rattle.numbers.specs.Numbers.{Numbers, valued, inNumbers, PassesOn}
 
 -- THE NUMBERS OF EACH OUTCOME
 
 -- 0; g.
 abbrev pub ofWalked : Walked → Numbers
-ofWalked a = numbered (λ g. valued 0 (g ∷ [])) (outcomeOfWalked a)
+ofWalked a = inNumbers (λ g. valued 0 (g ∷ [])) (outcomeOfWalked a)
 
 -- 1 for a minimal selector, else 0; the states that can walk the word, and those of which it is a maximal nonselector.
 abbrev pub ofJudged : Judged → Numbers
-ofJudged a = numbered (λ v. valued (one-if (v .minimal)) (v .survivors ∷ v .nonselected ∷ [])) (outcomeOfJudged a)
+ofJudged a = inNumbers (λ v. valued (one-if (v .minimal)) (v .survivors ∷ v .nonselected ∷ [])) (outcomeOfJudged a)
 
 -- THE PROMISES
 

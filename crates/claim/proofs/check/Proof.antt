@@ -2,7 +2,7 @@
 -- Assumes nothing.
 use mathlib.Core.Path.{sym}
 use borrow.Author.Needs.{needs}
-use Rattle.plan.proofs.Loading.{blank}
+use Rattle.semiautomata.proofs.Places.{blank}
 use Rattle.claim.proofs.Claims.{yes-so, no-so}
 use Rattle.claim.proofs.check.Statement.{statement}
 use Rattle.claim.proofs.check.Tie as tie

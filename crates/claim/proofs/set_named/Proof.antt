@@ -5,7 +5,7 @@ use native.Mathlib.Omega.{arith}
 use denote.Ref.{now}
 use Rattle.semiautomata.specs.Successors.{place}
 use Rattle.semiautomata.proofs.Successors.{place-lt}
-use Rattle.plan.proofs.Entering.{room}
+use Rattle.semiautomata.proofs.Places.{size-le}
 use Rattle.claim.proofs.Claims.{on-plan, named-initial, named-none, named-fork}
 use Rattle.claim.proofs.set_named.Statement.{statement}
 use Rattle.claim.proofs.set_named.Tie as tie
@@ -31,7 +31,7 @@ module _ (c : tie.Else2) where
   inside = place-lt _ _ _ _ (both .0) (both .1)
 
   few : s .args .n * s .args .m ≤ 2048
-  few = room (s .pre .0 .states) (s .pre .0 .letters)
+  few = size-le (s .pre .0 .states) (s .pre .0 .letters)
 
 mul-result : tie.Need-mul-result
 mul-result c = omega (arith, inside c, few c)

@@ -17,7 +17,7 @@ use Rattle.bitset.proofs.Members.{strike-less}
 use Rattle.bitset.proofs.Taking.{Left, left-first, left-next, least-below, least-in, Passed, passed-first, passed-next, passed-all}
 use Rattle.semiautomata.specs.Successors.{place}
 use Rattle.rows.specs.Rows.{pair}
-use Rattle.rows.proofs.Places.{place-in, place-fits}
+use Rattle.semiautomata.proofs.Places.{place-in, place-fits}
 use Rattle.pairs.proofs.Leading.{leadsBy, leads-hit, leads-none, met-none}
 use Rattle.pairs.proofs.lead.Statement.{statement}
 use Rattle.pairs.proofs.lead.Tie as tie

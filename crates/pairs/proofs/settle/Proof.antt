@@ -14,7 +14,7 @@ use borrow.Author.Tests.{not-true, not-false}
 use Rattle.semiautomata.specs.Successors.{successors}
 use Rattle.rows.specs.Rows.{Common}
 use Rattle.rows.specs.Turned.{Turned}
-use Rattle.rows.proofs.Places.{zeros-at}
+use Rattle.semiautomata.proofs.Places.{blank}
 use Rattle.rows.proofs.Turning.{turned-fit}
 use Rattle.pairs.specs.Sharing.{Sharing}
 use Rattle.pairs.specs.inner.Rounds.{Level}
@@ -111,7 +111,7 @@ loop-holds c =
         ends = first-ends _ _ _ f e (l .share-letter .ensures .0) (l .share-letter .ensures .1) w u;
         shared = λ i h. absurd (omega arith);
         long = refl;
-        fresh = λ _. record { long = refl; zero = zeros-at 2048 };
+        fresh = λ _. blank;
         turned = λ h. absurd (omega arith);
       },
       l .before .before .before .common .ensures .0 (not-false _ (l .before .if1 .left)),

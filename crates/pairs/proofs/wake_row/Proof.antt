@@ -7,9 +7,8 @@ use native.Mathlib.Omega.{arith}
 use lib.ListN.{length}
 use Rattle.bitset.specs.Numbers.{has, setOf}
 use Rattle.semiautomata.specs.Walks.{step}
-use Rattle.semiautomata.specs.Successors.{place, successors}
-use Rattle.rows.specs.Turned.{after}
-use Rattle.rows.proofs.Places.{place-in}
+use Rattle.semiautomata.specs.Successors.{place, successors, setAt}
+use Rattle.semiautomata.proofs.Places.{place-in}
 use Rattle.pairs.specs.inner.Rounds.{Paired}
 use Rattle.pairs.proofs.Pairing.{paired-first, paired-next, paired-none}
 use Rattle.pairs.proofs.wake_row.Statement.{statement}
@@ -17,7 +16,7 @@ use Rattle.pairs.proofs.wake_row.Tie as tie
 
 abbrev Inv-loop : tie.InvT-loop
 Inv-loop back n m s set look₀ a₀ look a =
-    (a ≤ m) × Paired look₀ look (after m back s) (λ a. setOf n (step (successors n m 0 back) (has set) a)) a
+    (a ≤ m) × Paired look₀ look (setAt m back s) (λ a. setOf n (step (successors n m 0 back) (has set) a)) a
 
 abbrev μ-loop : tie.MeasureT-loop
 μ-loop back n m s set look₀ a₀ look a = m - a

@@ -12,9 +12,8 @@ use Rattle.bitset.specs.Numbers.{has, setOf}
 use Rattle.semiautomata.specs.Semiautomaton.{Semiautomaton}
 use Rattle.semiautomata.specs.Walks.{step}
 use Rattle.semiautomata.specs.Levels.{live}
-use Rattle.semiautomata.specs.Successors.{successors}
+use Rattle.semiautomata.specs.Successors.{successors, setAt}
 use Rattle.rows.specs.Rows.{pair}
-use Rattle.rows.specs.Turned.{after}
 use Rattle.pairs.specs.Sharing.{leads}
 
 -- no row has a state n or higher
@@ -47,9 +46,9 @@ pub record Paired (old new : List ℕ) (F G : ℕ → ℕ) (k : ℕ) : Type 0 wh
 
 -- each pair that some letter leads to s and a state of the set is looked at too
 abbrev pub Woken : (n m : ℕ) (back : List ℕ) (s set : ℕ) (old new : List ℕ) → Type 0
-Woken n m back s set old new = Paired old new (after m back s) (λ a. setOf n (step (successors n m 0 back) (has set) a)) m
+Woken n m back s set old new = Paired old new (setAt m back s) (λ a. setOf n (step (successors n m 0 back) (has set) a)) m
 
 -- each pair that some letter leads to a struck pair of the rows below k is looked at
 pub record Waking (m : ℕ) (back struck look : List ℕ) (k : ℕ) : Type 0 where
   pub wakes : (s t a x y : ℕ) → s < k → pair struck s t ≡ true → a < m
-      → has (after m back s a) x ≡ true → has (after m back t a) y ≡ true → pair look x y ≡ true
+      → has (setAt m back s a) x ≡ true → has (setAt m back t a) y ≡ true → pair look x y ≡ true

@@ -1,7 +1,7 @@
 -- `plan::read` meets its contract.
 -- Assumes nothing.
 use borrow.Author.Needs.{needs}
-use Rattle.plan.proofs.Loading.{blank}
+use Rattle.semiautomata.proofs.Places.{blank}
 use Rattle.plan.proofs.Readings.{loaded-refused, loaded-counts}
 use Rattle.plan.proofs.read.Statement.{statement}
 use Rattle.plan.proofs.read.Tie as tie

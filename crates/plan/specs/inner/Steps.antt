@@ -6,7 +6,7 @@ use mathlib.Core.Path.{_≡_}
 use mathlib.Core.List.{List}
 use lib.ListN.{length, getD}
 use Rattle.bitset.specs.Numbers.{has, setOf}
-use Rattle.semiautomata.specs.Successors.{place}
+use Rattle.semiautomata.specs.Successors.{setAt}
 use Rattle.plan.specs.declared.Header.{Header}
 use Rattle.plan.specs.declared.Starts.{Starts}
 use Rattle.plan.specs.declared.Lines.{Lines}
@@ -29,6 +29,6 @@ pub record StartsEntered (P : Plan) (r : Starts) : Type 0 where
 pub record LinesEntered (P : Plan) (sets : List ℕ) (r : Lines) : Type 0 where
   pub size : length sets ≡ 2048
   pub below : (j : ℕ) → j < P .n * P .m → getD sets j 0 < 2 ^ P .n
-  pub edges : (q a t : ℕ) → q < P .n → a < P .m → t < P .n → has (getD sets (place (P .m) q a) 0) t ≡ semiautomaton P .edge q a t
+  pub edges : (q a t : ℕ) → q < P .n → a < P .m → t < P .n → has (setAt (P .m) sets q a) t ≡ semiautomaton P .edge q a t
   pub off-is : r .off ≡ lineOff P
   pub twice-is : r .off ≡ false → r .twice ≡ lineTwice P

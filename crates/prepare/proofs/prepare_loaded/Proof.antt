@@ -5,7 +5,7 @@ use mathlib.Core.Path.{refl}
 use native.Mathlib.Omega.{arith}
 use borrow.Author.Needs.{needs}
 use borrow.Author.Tests.{le-ltb}
-use Rattle.plan.proofs.Entering.{room}
+use Rattle.semiautomata.proofs.Places.{size-le}
 use Rattle.prepare.proofs.Refusals.{table-short}
 use Rattle.prepare.proofs.Promises.{prepare-refused}
 use Rattle.prepare.proofs.Answers.{held-proper, held-passes}
@@ -13,7 +13,7 @@ use Rattle.prepare.proofs.prepare_loaded.Statement.{statement}
 use Rattle.prepare.proofs.prepare_loaded.Tie as tie
 
 few : (s : tie.Start) → s .args .n * s .args .m ≤ 2048
-few s = room (s .pre .fit .states) (s .pre .fit .letters)
+few s = size-le (s .pre .fit .states) (s .pre .fit .letters)
 
 mul-if1 : tie.Need-mul-if1
 mul-if1 c = omega (arith, few (c .before .before .before))

@@ -14,5 +14,5 @@ pub record Held (n m starts : ℕ) (sets : List ℕ) : Type 0 where
   pub sized : Sized (successors n m starts sets)
 
 -- Nothing is checked, and S is meant.
-abbrev pub plain : Semiautomaton → Asked
-plain S = record { checks = []; means = S }
+abbrev pub unchecked : Semiautomaton → Asked
+unchecked S = record { checks = []; means = S }

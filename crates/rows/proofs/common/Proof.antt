@@ -6,7 +6,7 @@ use Rattle.rows.specs.Rows.{Apart}
 use mathlib.Core.Bool.{true≢false, false≢true}
 use borrow.Author.Count.{below-more}
 use borrow.Author.Needs.{needs}
-use Rattle.rows.proofs.Places.{least-word}
+use Rattle.bitset.proofs.Members.{least-word}
 use Rattle.rows.proofs.Searching.{row-none, row-some}
 use Rattle.rows.proofs.common.Statement.{statement}
 use Rattle.rows.proofs.common.Tie as tie

@@ -8,7 +8,7 @@ use Rattle.bitset.proofs.Members.{strike-less}
 use Rattle.bitset.proofs.Taking.{Left, left-first, left-next, least-in, taken}
 use Rattle.semiautomata.specs.Successors.{place}
 use Rattle.rows.specs.inner.Joined.{JoinedAt}
-use Rattle.rows.proofs.Places.{least-word}
+use Rattle.bitset.proofs.Members.{least-word}
 use Rattle.rows.proofs.Joining.{joining-first, joining-next, joining-all}
 use Rattle.rows.proofs.join.Statement.{statement}
 use Rattle.rows.proofs.join.Tie as tie

@@ -6,7 +6,7 @@ use native.Mathlib.Omega.{arith}
 use lib.ListN.{length}
 use Rattle.bitset.proofs.Bits.{has-lt}
 use Rattle.semiautomata.specs.Successors.{place}
-use Rattle.rows.proofs.Places.{place-in, place-fits, place-small}
+use Rattle.semiautomata.proofs.Places.{place-in, place-fits, place-small}
 use Rattle.rows.proofs.Turning.{Turning, turning-first, turning-next, turning-row, turning-all}
 use Rattle.rows.proofs.turn.Statement.{statement}
 use Rattle.rows.proofs.turn.Tie as tie

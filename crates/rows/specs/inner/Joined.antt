@@ -6,11 +6,11 @@ use mathlib.Core.Path.{_≡_}
 use mathlib.Core.List.{List}
 use lib.Dec.{eqb}
 use lib.ListN.{length}
+use Rattle.semiautomata.specs.Successors.{setAt}
 use Rattle.bitset.specs.Numbers.{has}
-use Rattle.rows.specs.Turned.{after}
 
 -- the seconds are joined to what stands at the place `at` of each of the states of X
 pub record JoinedAt (width at : ℕ) (X : ℕ → Bool) (seconds : ℕ) (old new : List ℕ) : Type 0 where
   pub long : length new ≡ length old
   pub is : (s b t : ℕ) → b < width
-      → has (after width new s b) t ≡ (has (after width old s b) t || (eqb at b && X s) && has seconds t)
+      → has (setAt width new s b) t ≡ (has (setAt width old s b) t || (eqb at b && X s) && has seconds t)

@@ -3,7 +3,7 @@
 use Prim.Native.Nat.{_*_, _≤_, _-_}
 use mathlib.Core.Path.{_≡_, refl}
 use native.Mathlib.Omega.{arith}
-use Rattle.rows.proofs.Places.{size-le}
+use Rattle.semiautomata.proofs.Places.{size-le}
 use Rattle.lookahead.proofs.Rivalry.{Gathered, gathered-first, gathered-next, rivalry}
 use Rattle.lookahead.proofs.rivals.rivals.Statement.{statement}
 use Rattle.lookahead.proofs.rivals.rivals.Tie as tie

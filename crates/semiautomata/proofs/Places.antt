@@ -1,21 +1,18 @@
--- The places of successor sets; what stands at each place of a list of zeros; the least member as an index.
+-- The places of successor sets, and room for them.
 -- Assumes nothing.
 use mathlib.Core.Path.{_≡_, refl, sym, _∙_}
 use mathlib.Core.List.{List}
 use Prim.Native.Nat.{ℕ, zero, suc, _*_, _/_, _%_, _^_, _≤_, _<_}
-use native.Mathlib.Nat.{mul-le-mul, mul-add-div-right, mul-add-mod-self-right, div-eq-of-lt, mod-eq-of-lt, lt-of-lt-of-le, lt-of-le-of-lt}
+use native.Mathlib.Nat.{mul-le-mul, mul-add-div-right, mul-add-mod-self-right, div-eq-of-lt, mod-eq-of-lt, lt-of-lt-of-le}
 use native.Mathlib.Omega.{arith}
-use lib.Count.{trailingZeros, trailing-le}
-use lib.Dec.{lit<}
-use lib.ListN.{length, getD, replicate}
-use Rattle.semiautomata.specs.Successors.{place, Fit}
+use lib.ListN.{length, getD, replicate, length-replicate}
+use Rattle.semiautomata.specs.Successors.{place, setAt, Fit, Blank}
 use Rattle.semiautomata.proofs.Successors.{place-lt}
-use Rattle.rows.specs.Turned.{after}
 
 pub place-in : {n m : ℕ} {sets : List ℕ} → Fit n m sets → (q a : ℕ) → q < n → a < m → place m q a < length sets
 place-in {n} {m} f q a h g = lt-of-lt-of-le (place-lt n m q a h g) (f .room)
 
-pub place-fits : {n m : ℕ} {sets : List ℕ} → Fit n m sets → (q a : ℕ) → q < n → a < m → after m sets q a < 2 ^ n
+pub place-fits : {n m : ℕ} {sets : List ℕ} → Fit n m sets → (q a : ℕ) → q < n → a < m → setAt m sets q a < 2 ^ n
 place-fits {n} {m} f q a h g = f .below (place m q a) (place-lt n m q a h g)
 
 -- at most 64 states and 32 letters
@@ -43,6 +40,5 @@ zeros-at zero i = refl
 zeros-at (suc k) zero = refl
 zeros-at (suc k) (suc i) = zeros-at k i
 
--- the least member as an index
-pub least-word : (x : ℕ) → trailingZeros 64 x < 2 ^ 64
-least-word x = lt-of-le-of-lt (trailing-le 64 x) (lit< tt)
+pub blank : Blank (replicate 2048 0)
+blank = record { long = length-replicate {A = ℕ} 2048 0; zero = zeros-at 2048 }
