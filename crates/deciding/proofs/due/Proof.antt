@@ -44,6 +44,7 @@ slice-aggregate-reach-by c = sym (length-take-le _ _ (inside (c .before)))
 reach-by-requires : tie.Need-reach-by-requires
 reach-by-requires c κs = let e = c .before in let p = start e .pre in (p .0, p .1, letters-take (position e) (p .3 .0))
 
+-- what is reached before it is a set of states
 here-lt : (c : tie.After-reach-by) → c .reach-by .result < 2 ^ start (c .before .before) .args .n
 here-lt c = rw (c .reach-by .ensures 0) (setOf-lt (start (c .before .before) .args .n) _)
 
@@ -54,7 +55,8 @@ returns-2 c starts =
     let a = s .args in
     let sole = due-sole (bare (a .n) (a .m) (a .sets .now)) (has (a .base)) (a .held .now) (a .letter) (bare-within (s .pre .0))
     (λ x f. has-lt (a .n) (a .base) x (s .pre .1) f)
-    (position e) (inside e) (c .before .reach-by .ensures 0) (sym (ones-size (a .n) _ (here-lt (c .before))) ∙ c .if2 .taken) (s .pre .3 .3 0) (s .pre .3 .2) in
+    (position e) (inside e) (c .before .reach-by .ensures 0) (sym (ones-size (a .n) _ (here-lt (c .before))) ∙ c .if2 .taken)
+    (s .pre .3 .3 0) (s .pre .3 .2) in
     let z : suc (length (a .held .now)) - a .k ≡ position e = omega arith in
     rw z (sole ∙ setOf-cong (a .n) _ _
     (λ x _. sym (possible-bare (a .n) (a .m) starts (a .sets .now) (has (a .base)) (a .held .now ++ (a .letter ∷ [])) (position e) x)))
