@@ -20,8 +20,8 @@ no-room cs n =
     absurd (omega (arith, nine)) in
     (omega (arith, z), first-le lastRefusal (cs ++ short true) (numbered-both lastRefusal cs (short true) n refl))
 
-pub gives-number : {A : Type 0} {numbers : A → Numbers} {room : ℕ} {before : List Check} {Meets : A
-    → Type 0} {Kept : Type 0} {r : ℕ} {old more : List ℕ}
-    → Numbered lastRefusal before → ((a : A) → Meets a → Number (numbers a .first)) → PassesOn numbers room before Meets Kept r old more → Number r
-gives-number n f (answers _ a m p) = rw (p .answered) (f a m)
-gives-number {before = before} n f (refuses _ e _ _) = let (l, h) = no-room before n in refusal-number _ l h e
+module _ {A : Type 0} {numbers : A → Numbers} {room : ℕ} {before : List Check} {Meets : A → Type 0} {Kept : Type 0}
+    (n : Numbered lastRefusal before) (f : (a : A) → Meets a → Number (numbers a .first)) where
+  pub gives-number : {r : ℕ} {old more : List ℕ} → PassesOn numbers room before Meets Kept r old more → Number r
+  gives-number (answers _ a m p) = rw (p .answered) (f a m)
+  gives-number (refuses _ e _ _) = let (l, h) = no-room before n in refusal-number _ l h e
