@@ -12,7 +12,7 @@ use Rattle.streaming.specs.PlainWalk.{limit}
 use Rattle.streaming.specs.Streaming.{base, sound, soleAt, settle}
 use Rattle.plan.specs.Bytes.{meaning, planChecks, asked}
 use Rattle.plan.proofs.Refusals.{asked-proper}
-use Rattle.table.specs.Table.{unfit, laidOut}
+use Rattle.table.specs.Table.{unfit, contents, laidOut}
 use Rattle.plan.specs.Asked.{refusalWith}
 use Rattle.prepare.specs.Preparing.{prepareRefusal}
 use Rattle.records.specs.Bytes.{tidy}
@@ -28,7 +28,7 @@ use Rattle.samples.proofs.Plans.{samples-hold}
 abbrev old : List ℕ
 old = 9 ∷ 9 ∷ 9 ∷ 9 ∷ 9 ∷ 9 ∷ 9 ∷ 9 ∷ []
 
-laid : tableA ≡ laidOut (meaning planA) 1 old
+laid : tableA ≡ laidOut (contents (meaning planA) 1) old
 unfolding flatMap setOf any
 laid = refl
 

@@ -28,6 +28,7 @@ use Rattle.prepare.proofs.Theorems.{table-read, theorems as preparing-theorems}
 use Rattle.table.specs.Table.{lookaheadOf, tableMeaning, unfit}
 use Rattle.table.proofs.Fitness.{fitting, lookahead-le}
 use Rattle.table.proofs.Form.{Reads}
+use Rattle.prepare.specs.Preparing.{holding}
 use Rattle.deciding.specs.declared.Answer.{Answer}
 use Rattle.records.specs.Bytes.{heldFrom, decode, tidy}
 use Rattle.deciding.specs.Replies.{said}
@@ -100,7 +101,7 @@ module _ (table : List ℕ) (fit : unfit table ≡ false) (P : Predictable (tabl
 
 -- OF THE PLAN THAT THE TABLE WAS MADE FROM
 module _ (A : Asked) (P : Proper A) (k : ℕ) (table : List ℕ) (made : Made A k table) where
-  pub t : Reads (A .means) k table
+  pub t : Reads (holding A k) table
   t = table-read A P (made .old) (made .old-letters) (made .letters) (made .prepared)
 
   abbrev S : Semiautomaton

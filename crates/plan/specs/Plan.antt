@@ -27,6 +27,10 @@ pub record Plan : Type 0 where
 abbrev pub says : Line → ℕ → ℕ → ℕ → Bool
 says l s a t = eqb (l .from) s && (eqb (l .letter) a && eqb (l .to) t)
 
+-- Two lines are the same if all their numbers are.
+abbrev pub sameLine : Line → Line → Bool
+sameLine l k = says l (k .from) (k .letter) (k .to)
+
 -- A state is initial if some start is it; there is an edge if some line says so.
 abbrev pub semiautomaton : Plan → Semiautomaton
 semiautomaton P = record {
@@ -62,4 +66,4 @@ lineOff P = any (P .e) (λ i. not (lineFits P (P .line i)))
 
 -- 7: a line twice
 abbrev pub lineTwice : Plan → Bool
-lineTwice P = twice (P .e) (λ i j. says (P .line i) (P .line j .from) (P .line j .letter) (P .line j .to))
+lineTwice P = twice (P .e) (λ i j. sameLine (P .line i) (P .line j))

@@ -19,7 +19,7 @@ use Rattle.lookahead.specs.declared.Evidence.{Evidence}
 use Rattle.prepare.specs.declared.Prepared.the-variants as prepared
 use Rattle.claim.specs.declared.Checked.{Checked}
 use Rattle.claim.specs.declared.Checked.the-variants.{Yes, No, Refused}
-use Rattle.prepare.specs.Preparing.{Shown, Prepares, CountsTo}
+use Rattle.prepare.specs.Preparing.{Shown, Prepares, CountsTo, holding}
 use Rattle.prepare.specs.declared.Prepared.{Prepared}
 use Rattle.claim.specs.Checking.{Checks}
 use Rattle.prepare.specs.Theorems.{EitherCall, Right, Theorems, Met}
@@ -77,7 +77,7 @@ module _ (A : Asked) (P : Proper A) where
 
   -- the table that preparing leaves
   pub table-read : {k : ℕ} (old : List ℕ) {table : List ℕ} (old′ letters : List ℕ) → Prepares A (prepared.Ready k) old table old′ letters
-      → Reads (A .means) k table
+      → Reads (holding A k) table
   table-read old old′ letters ((p, a), t, _) = sized-reads (P .sized (clear-passes A P _ p)) a old t
 
   pub theorems : Theorems A

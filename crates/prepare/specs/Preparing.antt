@@ -12,7 +12,7 @@ use Rattle.semiautomata.specs.Predictability.{Lookahead}
 use Rattle.semiautomata.specs.Predictability as predictability
 use Rattle.refusals.specs.Outcomes.{Outcome, refused, answered}
 use Rattle.plan.specs.Asked.{Asked, refusalOf, refusalWith}
-use Rattle.table.specs.Table.{setsFrom, laidOut}
+use Rattle.table.specs.Table.{setsFrom, Contents, contents, laidOut}
 use Rattle.lookahead.specs.declared.Evidence.{Evidence}
 use Rattle.lookahead.specs.Answers.{TrueOf}
 use Rattle.prepare.specs.declared.Prepared.{Prepared}
@@ -49,23 +49,27 @@ abbrev pub LooksAhead : ℕ → Semiautomaton → Outcome ℕ → Type 0
 LooksAhead refusal S (refused r) = ((r ≡ refusal) × ¬ (r ≡ 0)) ⊎ ((refusal ≡ 0) × (r ≡ 15) × predictability.Unpredictable S)
 LooksAhead refusal S (answered k) = (refusal ≡ 0) × Lookahead S k
 
+-- What a table of the look-ahead k is to hold.
+abbrev pub holding : Asked → ℕ → Contents
+holding A k = contents (A .means) k
+
 -- What is left in the lent letters: the evidence under 15, which never comes without it, and else what stood there.
 abbrev pub LeavesLetters : Semiautomaton → Prepared → List ℕ → List ℕ → Type 0
 LeavesLetters S (Ready k) old letters = letters ≡ old
 LeavesLetters S (Refused r) old letters = ¬ (r ≡ 15) × (letters ≡ old)
 LeavesLetters S (Unpredictable e) old letters = Shown S e old letters
 
--- .. and in the lent table: the form of S with k, the rest of the buffer as it was; and else what stood there.
-abbrev pub LeavesTable : Semiautomaton → Prepared → List ℕ → List ℕ → Type 0
-LeavesTable S (Ready k) old table = table ≡ laidOut S k old
-LeavesTable S (Refused r) old table = table ≡ old
-LeavesTable S (Unpredictable e) old table = table ≡ old
+-- .. and in the lent table: its form, the rest of the buffer as it was; and else what stood there.
+abbrev pub LeavesTable : (ℕ → Contents) → Prepared → List ℕ → List ℕ → Type 0
+LeavesTable holds (Ready k) old table = table ≡ laidOut (holds k) old
+LeavesTable holds (Refused r) old table = table ≡ old
+LeavesTable holds (Unpredictable e) old table = table ≡ old
 
 -- What preparing gives.
 abbrev pub Prepares : Asked → Prepared → List ℕ → List ℕ → List ℕ → List ℕ → Type 0
 Prepares A a old table old′ letters =
     LooksAhead (prepareRefusal A (length old) (length old′)) (A .means) (outcomeOfPrepared a)
-    × LeavesTable (A .means) a old table
+    × LeavesTable (holding A) a old table
     × LeavesLetters (A .means) a old′ letters
 
 -- What the count call gives: the same without a table.

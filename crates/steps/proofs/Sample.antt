@@ -16,7 +16,7 @@ use Rattle.streaming.specs.Calls.{resolved, nothing}
 use Rattle.streaming.specs.Streaming.{base, sound, soleAt, settle}
 use Rattle.plan.specs.Bytes.{meaning, outcomeOfReading, reading, WellFormed}
 use Rattle.plan.specs.declared.Reading.the-variants.{Counts}
-use Rattle.table.specs.Table.{lookaheadOf, tableMeaning, unfit, laidOut}
+use Rattle.table.specs.Table.{lookaheadOf, tableMeaning, unfit, contents, laidOut}
 use Rattle.plan.proofs.Refusals.{well-formed-sized}
 use Rattle.prepare.proofs.Answers.{sized-reads}
 use Rattle.records.specs.Bytes.{tidy}
@@ -67,7 +67,7 @@ w = samples-hold .0 .well-formed
 abbrev table : List ℕ
 table = 3 ∷ 1 ∷ 1 ∷ 1 ∷ 2 ∷ 6 ∷ 0 ∷ replicate 2045 0
 
-is-laid : table ≡ laidOut (meaning A) 1 zeroTable
+is-laid : table ≡ laidOut (contents (meaning A) 1) zeroTable
 unfolding flatMap setOf any
 is-laid = refl
 

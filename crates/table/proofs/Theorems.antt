@@ -4,12 +4,12 @@ use Prim.Native.Nat.{ℕ}
 use mathlib.Core.Bool.{false}
 use mathlib.Core.List.{List}
 use mathlib.Core.Path.{_≡_}
-use Rattle.table.specs.Table.{lookaheadOf, tableMeaning, unfit, Preparable}
+use Rattle.table.specs.Table.{unfit, contentsOf, Preparable}
 use Rattle.table.specs.Theorems.{Theorems}
 use Rattle.table.proofs.Fitness.{fitting}
 use Rattle.table.proofs.Form.{form-length, one-form, form-reads}
 
-preparable : (table : List ℕ) → unfit table ≡ false → Preparable (tableMeaning table) (lookaheadOf table)
+preparable : (table : List ℕ) → unfit table ≡ false → Preparable (contentsOf table)
 preparable table e =
     let f = fitting table e in record {
       sized = record { n-low = f .some-state; n-high = f .states; m-low = f .some-letter; m-high = f .letters; within = f .within };
@@ -20,6 +20,6 @@ pub theorems : (table : List ℕ) → Theorems table
 theorems table = record {
   preparable = preparable table;
   one-form = λ e. one-form (fitting table e);
-  form-read = λ S k P rest e. let r = form-reads rest P e in (r .fit, r .means, r .k-is);
+  form-read = λ C P rest e. let r = form-reads rest P e in (r .fit, (λ i. record { means = r .means i; lookahead = r .k-is i }));
   form-length = form-length;
 }

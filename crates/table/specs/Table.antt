@@ -75,19 +75,30 @@ headOf table = cond (unfit table) unread (front table)
 
 -- THE PREPARED FORM
 
+-- What a table holds: the semiautomaton that it means, and its look-ahead.
+pub record Contents : Type 0 where
+  pub means : Semiautomaton
+  pub lookahead : ℕ
+
+abbrev pub contents : Semiautomaton → ℕ → Contents
+contents S k = record { means = S; lookahead = k }
+
+abbrev pub contentsOf : List ℕ → Contents
+contentsOf table = contents (tableMeaning table) (lookaheadOf table)
+
 -- The sets of S: for each state in order and each letter in order, the states that it leads to.
 abbrev pub setsInOrder : Semiautomaton → List ℕ
 setsInOrder S = flatMap (λ q. map (λ a. setOf (S .n) (S .edge q a)) (range 0 (S .m))) (range 0 (S .n))
 
--- The prepared form of S with the look-ahead k: n, m, k, the set of initial states, then the sets.
-abbrev pub tableOf : Semiautomaton → ℕ → List ℕ
-tableOf S k = S .n ∷ S .m ∷ k ∷ setOf (S .n) (S .initial) ∷ setsInOrder S
+-- The prepared form: n, m, k, the set of initial states, then the sets.
+abbrev pub tableOf : Contents → List ℕ
+tableOf C = let S = C .means in S .n ∷ S .m ∷ C .lookahead ∷ setOf (S .n) (S .initial) ∷ setsInOrder S
 
 -- That form at the front of a buffer that keeps its rest: what preparing leaves.
-abbrev pub laidOut : Semiautomaton → ℕ → List ℕ → List ℕ
-laidOut S k old = tableOf S k ++ drop (length (tableOf S k)) old
+abbrev pub laidOut : Contents → List ℕ → List ℕ
+laidOut C old = tableOf C ++ drop (length (tableOf C)) old
 
--- S has the sizes of a plan, and k is no more than a look-ahead can be.
-pub record Preparable (S : Semiautomaton) (k : ℕ) : Type 0 where
-  pub sized : Sized S
-  pub lookahead : k ≤ mostAhead (S .n)
+-- What is meant has the sizes of a plan, and k is no more than a look-ahead can be.
+pub record Preparable (C : Contents) : Type 0 where
+  pub sized : Sized (C .means)
+  pub lookahead : C .lookahead ≤ mostAhead (C .means .n)

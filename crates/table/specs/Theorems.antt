@@ -5,16 +5,14 @@ use mathlib.Core.List.{List, _++_}
 use mathlib.Core.Path.{_≡_}
 use Prim.Native.Nat.{ℕ, _+_, _*_}
 use lib.ListN.{length}
-use Rattle.semiautomata.specs.Semiautomaton.{Semiautomaton}
-use Rattle.table.specs.Table.{lookaheadOf, setsFrom, tableMeaning, unfit, tableOf, laidOut, Preparable}
+use Rattle.table.specs.Table.{setsFrom, unfit, Contents, contentsOf, tableOf, laidOut, Preparable}
 
 pub record Theorems (table : List ℕ) : Type 0 where
   -- what a fit table means has the sizes of a plan and lies within its states and letters, and its look-ahead is not too great
-  pub preparable : unfit table ≡ false → Preparable (tableMeaning table) (lookaheadOf table)
-  -- a fit table is the prepared form of what it means, with its look-ahead, and what stands behind it: no two forms mean the same
-  pub one-form : unfit table ≡ false → table ≡ laidOut (tableMeaning table) (lookaheadOf table) table
-  -- a table that begins with the form of S is fit, means S and has its look-ahead
-  pub form-read : (S : Semiautomaton) (k : ℕ) → Preparable S k → (rest : List ℕ) → table ≡ tableOf S k ++ rest
-      → (unfit table ≡ false) × (tableMeaning table ≡ S) × (lookaheadOf table ≡ k)
+  pub preparable : unfit table ≡ false → Preparable (contentsOf table)
+  -- a fit table is the prepared form of what it holds, and what stands behind it: no two forms hold the same
+  pub one-form : unfit table ≡ false → table ≡ laidOut (contentsOf table) table
+  -- a table that begins with a form is fit, and holds what the form was made of
+  pub form-read : (C : Contents) → Preparable C → (rest : List ℕ) → table ≡ tableOf C ++ rest → (unfit table ≡ false) × (contentsOf table ≡ C)
   -- the form has 4 + n × m numbers
-  pub form-length : (S : Semiautomaton) (k : ℕ) → length (tableOf S k) ≡ setsFrom + S .n * S .m
+  pub form-length : (C : Contents) → length (tableOf C) ≡ setsFrom + C .means .n * C .means .m

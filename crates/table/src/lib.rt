@@ -6,7 +6,7 @@ ghost use lib.ListN.{length, getD};
 ghost use Rattle.bitset.specs.Sets.{any};
 ghost use Rattle.bitset.specs.Numbers.{has};
 ghost use Rattle.semiautomata.specs.Successors.{successors, Fit};
-ghost use Rattle.table.specs.Table.{setsFrom, unfit, headOf, laidOut};
+ghost use Rattle.table.specs.Table.{setsFrom, unfit, headOf, contents, laidOut};
 
 // Where the sets begin; n, m, k and the initial states stand before them.
 pub const SETS_FROM: usize = 4;
@@ -83,7 +83,7 @@ pub fn head_of(table: &[u64]) -> Head
 // The form for n states, m letters, look-ahead k, initial states and successor sets, into a table that keeps its rest.
 pub fn write(table: &mut [u64], n: usize, m: usize, k: u64, starts: u64, sets: &[u64])
     requires { ⌜ Fit n m (now sets) × (starts < 2 ^ n) × (setsFrom + n * m ≤ length (now table)) ⌝ }
-    ensures { λ r. ⌜ now (table .exit) ≡ laidOut (successors n m starts (now (sets .entry))) k (now (table .entry)) ⌝ }
+    ensures { λ r. ⌜ now (table .exit) ≡ laidOut (contents (successors n m starts (now (sets .entry))) k) (now (table .entry)) ⌝ }
 {
     for i in 0..n * m {
         table[SETS_FROM + i] = sets[i];

@@ -15,7 +15,7 @@ use Rattle.semiautomata.specs.Predictability.{Lookahead, Unpredictable}
 use Rattle.plan.specs.declared.Reading.the-variants.{Counts, Refused}
 use Rattle.plan.specs.Bytes.{headerOf, meaning, asked, refusal, PlanCounts, outcomeOfReading, reading, WellFormed}
 use Rattle.plan.proofs.Refusals.{well-formed-range, asked-proper}
-use Rattle.table.specs.Table.{lookaheadOf, tableMeaning}
+use Rattle.table.specs.Table.{lookaheadOf, tableMeaning, contents}
 use Rattle.table.proofs.Form.{Reads}
 use Rattle.prepare.specs.Preparing.{prepareRefusal}
 use Rattle.plan.proofs.Readings.{reading-refused, reading-well}
@@ -74,7 +74,7 @@ prepare-taken plan w table letters a b =
     prepare-clear (asked plan) (asked-proper plan) w letters (omega arith) (omega (arith, square (r .n-high)))
 
 module _ {S : Semiautomaton} {old : List ℕ} {at : ℕ} where
-  pub counted : {k : ℕ} {table : List ℕ} → Lookahead S k → Reads S k table → {r : ℕ} {mid : List ℕ}
+  pub counted : {k : ℕ} {table : List ℕ} → Lookahead S k → Reads (contents S k) table → {r : ℕ} {mid : List ℕ}
       → Appended old at (lookaheadLine k) r mid
       → (printed : Printed) (out left : List ℕ)
       → Lays (AfterLookahead (tableMeaning table) (lookaheadOf table)) mid r printed out table left

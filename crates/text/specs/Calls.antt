@@ -11,7 +11,7 @@ use Rattle.semiautomata.specs.Semiautomaton.{Semiautomaton}
 use Rattle.semiautomata.specs.Sizes.{maxStates, maxLetters, maxLookahead}
 use Rattle.semiautomata.specs.Predictability.{Lookahead, Unpredictable}
 use Rattle.plan.specs.Bytes.{meaning, WellFormed}
-use Rattle.table.specs.Table.{setsFrom, laidOut}
+use Rattle.table.specs.Table.{setsFrom, contents, laidOut}
 use Rattle.records.specs.Bytes.{heldFrom, decode}
 use Rattle.predictor.specs.Calls.{openedOn, fedOn, endRefusal, ended}
 use Rattle.deciding.specs.Replies.{isRefusal}
@@ -110,7 +110,7 @@ over Short = true
 -- leaves; it is over where opening is refused.
 pub data Leaves (S : Semiautomaton) (table bytes : List ℕ) (isOver : Bool) (table′ left : List ℕ) : Type 0 where
   unpredictable : Unpredictable S → isOver ≡ true → table′ ≡ table → left ≡ bytes → Leaves S table bytes isOver table′ left
-  opens : (k : ℕ) → Lookahead S k → table′ ≡ laidOut S k table → left ≡ openedOn table′ bytes .state
+  opens : (k : ℕ) → Lookahead S k → table′ ≡ laidOut (contents S k) table → left ≡ openedOn table′ bytes .state
       → isRefusal (openedOn table′ bytes .reply) ≡ isOver
       → Leaves S table bytes isOver table′ left
 

@@ -8,7 +8,7 @@ use lib.ListN.{length}
 use Rattle.semiautomata.specs.Predictability.{Lookahead}
 use Rattle.plan.specs.Bytes.{meaning, asked}
 use Rattle.plan.proofs.Refusals.{asked-proper, well-formed-sized}
-use Rattle.table.specs.Table.{laidOut}
+use Rattle.table.specs.Table.{contents, laidOut}
 use Rattle.table.proofs.Form.{Reads}
 use Rattle.prepare.proofs.Answers.{sized-reads}
 use Rattle.prepare.proofs.Promises.{shown-never, prepare-refused-so}
@@ -28,12 +28,12 @@ abbrev table : tie.After-prepared → List ℕ
 table c = c .before .before .before .before .before .prepare .last .1 .0
 
 ready : (c : tie.After-prepared) → let a = start c .args in let k = c .prepared .given .0 .0 in
-    Lookahead (meaning (a .plan .now)) k × (table c ≡ laidOut (meaning (a .plan .now)) k (a .table .now))
+    Lookahead (meaning (a .plan .now)) k × (table c ≡ laidOut (contents (meaning (a .plan .now)) k) (a .table .now))
 ready c =
     let at-prepare = c .before .before .before .before .before in
     let ((_, l), t, _) = rw (c .prepared .given .1) at (at-prepare .prepare .ensures) in (l, t)
 
-reads : (c : tie.After-prepared) → Reads (meaning (start c .args .plan .now)) (c .prepared .given .0 .0) (table c)
+reads : (c : tie.After-prepared) → Reads (contents (meaning (start c .args .plan .now)) (c .prepared .given .0 .0)) (table c)
 reads c = let s = start c in let (l, t) = ready c in
     sized-reads (well-formed-sized (s .args .plan .now) (s .pre .0)) l (s .args .table .now) t
 
