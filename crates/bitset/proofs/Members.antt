@@ -27,7 +27,7 @@ unfolding trailingZeros least
 trailing-least zero x = refl
 trailing-least (suc k) x = simp (low x, under-is, trailing-least k (x / 2), has-suc)
 
--- .. as an index
+-- the least member fits a machine word
 pub least-word : (x : ℕ) → trailingZeros 64 x < 2 ^ 64
 least-word x = lt-of-le-of-lt (trailing-le 64 x) (lit< tt)
 

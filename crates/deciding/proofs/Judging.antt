@@ -29,7 +29,7 @@ use Rattle.streaming.proofs.Streaming.{length-snoc}
 use Rattle.walks.proofs.Steps.{reach-bare, step-members}
 use Rattle.walks.proofs.Words.{some-of, none-of, possible-last}
 use Rattle.records.specs.Bytes.{decode, tidy}
-use Rattle.deciding.specs.Deciding.{resolving, opening, judged}
+use Rattle.deciding.specs.Deciding.{resolving, opening, decision}
 use Rattle.deciding.proofs.Standing.{By, base-below, Standing}
 
 -- THE POSITION THAT IS DUE
@@ -99,8 +99,8 @@ resolving-is S small X w i position {set} e = go (decided (eqb (size (S .n) (pos
 -- A LETTER, where neither 8 nor 9 applies
 
 pub judged-10 : (S : Semiautomaton) (k : ℕ) (bytes : List ℕ) (a : ℕ) → (tidy k bytes && sound S k (decode bytes)) ≡ false
-    → refused 10 ≡ judged S k bytes a .reply
-unfolding judged
+    → refused 10 ≡ decision S k bytes a .reply
+unfolding decision
 judged-10 S k bytes a e = rw e
 
 -- what the held letters and the new one lead to
@@ -124,13 +124,13 @@ reached-from n m starts others sets from a {part = part} s is held e =
     (reached s a e)
 
 module _ {S : Semiautomaton} {k here starts : ℕ} {bytes : List ℕ} (s : Standing S k bytes here) (b : By S starts) (a : ℕ) where
-  pub judged-11 : limit ≤ decode bytes .fed → refused 11 ≡ judged S k bytes a .reply
-  unfolding judged
+  pub judged-11 : limit ≤ decode bytes .fed → refused 11 ≡ decision S k bytes a .reply
+  unfolding decision
   judged-11 h = rw (s .tidied, s .is-sound, le-leb limit (decode bytes .fed) h)
 
   module _ (h : decode bytes .fed < limit) where
-    pub judged-12 : S .m ≤ a → refused 12 ≡ judged S k bytes a .reply
-    unfolding judged
+    pub judged-12 : S .m ≤ a → refused 12 ≡ decision S k bytes a .reply
+    unfolding decision
     judged-12 g = rw (s .tidied, s .is-sound, lt-leb limit (decode bytes .fed) h, le-leb (S .m) a g)
 
     module _ (g : a < S .m) {next : ℕ} (step-is : next ≡ setOf (S .n) (step S (has here) a)) where
@@ -139,21 +139,21 @@ module _ {S : Semiautomaton} {k here starts : ℕ} {bytes : List ℕ} (s : Stand
       walks = walkable-reach S (b .within) (base S k (decode bytes)) (base-below b k (decode bytes) (s .keeps .last-lt))
           (decode bytes .held ++ (a ∷ []))
 
-      pub judged-13 : next ≡ 0 → refused 13 ≡ judged S k bytes a .reply
-      unfolding judged
+      pub judged-13 : next ≡ 0 → refused 13 ≡ decision S k bytes a .reply
+      unfolding decision
       judged-13 z =
           let none = walks ∙ none-of (S .n) _ (reached s a step-is) z in
           rw (s .tidied, s .is-sound, lt-leb limit (decode bytes .fed) h, lt-leb (S .m) a g, none)
 
       module _ (some : ¬ (next ≡ 0)) where
-        settles : judged S k bytes a .reply ≡ settle S k (base S k (decode bytes)) (suc (decode bytes .fed))
+        settles : decision S k bytes a .reply ≡ settle S k (base S k (decode bytes)) (suc (decode bytes .fed))
             (decode bytes .held ++ (a ∷ []))
-        unfolding judged
+        unfolding decision
         settles =
             let on = walks ∙ some-of (S .n) _ (reached s a step-is) some in
             rw (s .tidied, s .is-sound, lt-leb limit (decode bytes .fed) h, lt-leb (S .m) a g, on)
 
-        pub judged-nothing : suc (decode bytes .fed) < k → nothing ≡ judged S k bytes a .reply
+        pub judged-nothing : suc (decode bytes .fed) < k → nothing ≡ decision S k bytes a .reply
         unfolding settle
         judged-nothing l = rw (settles, settle, lt-ltb (suc (decode bytes .fed)) k l)
 
@@ -161,7 +161,7 @@ module _ {S : Semiautomaton} {k here starts : ℕ} {bytes : List ℕ} (s : Stand
             → {set fed : ℕ} {part : List ℕ} → part ≡ decode bytes .held
             → set ≡ setOf (S .n) (possible S (has from) (part ++ (a ∷ [])) (suc (length part) - k)) → fed ≡ decode bytes .fed
             → (reply : Reply) → reply ≡ resolving (fed + 1 - k) set
-            → reply ≡ judged S k bytes a .reply
+            → reply ≡ decision S k bytes a .reply
         unfolding settle
         judged-resolved l from is {set} {fed} {part} q e f reply d =
             let same : set ≡ setOf (S .n)

@@ -64,7 +64,6 @@ module _ (S : Semiautomaton) (k : ℕ) (bytes : List ℕ) {here : ℕ} (s : Stan
     (eh : h ≡ heldCount bytes) (room : suc h ≤ length all)
     (e : count ≡ min (h + 1) k) where
   pub open-sets : openSets S k bytes ≡ take count (drop (h + 1 - count) all)
-  unfolding openSets
   open-sets =
       let l : length part ≡ heldCount bytes = ap length held ∙ s .long in
       rw (← is, ← held)

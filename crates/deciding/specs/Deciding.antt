@@ -34,15 +34,16 @@ opening k starts = cond (eqb starts 0) (refused 13) (cond (ltb 0 k) nothing (res
 abbrev pub bytesCheck : Semiautomaton → ℕ → List ℕ → Check
 bytesCheck S k bytes = record { number = 10; applies = not (tidy k bytes && sound S k (decode bytes)) }
 
--- A letter fed: the reply, and the record that is left of the one that the bytes hold.
-abbrev pub judgeChecks : Semiautomaton → ℕ → List ℕ → ℕ → List Check
-judgeChecks S k bytes a = bytesCheck S k bytes ∷ takeChecks S k (decode bytes) a
+-- The refusals of a letter from 10 on, in order.
+abbrev pub decisionChecks : Semiautomaton → ℕ → List ℕ → ℕ → List Check
+decisionChecks S k bytes a = bytesCheck S k bytes ∷ takeChecks S k (decode bytes) a
 
-unfoldable pub judged : Semiautomaton → ℕ → List ℕ → ℕ → Result Rec
-judged S k bytes a = checked (judgeChecks S k bytes a) (decode bytes) (settledBy S k (decode bytes) a)
+-- A letter fed: the reply, and the record that is left of the one that the bytes hold.
+unfoldable pub decision : Semiautomaton → ℕ → List ℕ → ℕ → Result Rec
+decision S k bytes a = checked (decisionChecks S k bytes a) (decode bytes) (settledBy S k (decode bytes) a)
 
 -- The sets that ending writes.
-unfoldable pub openSets : Semiautomaton → ℕ → List ℕ → List ℕ
+abbrev pub openSets : Semiautomaton → ℕ → List ℕ → List ℕ
 openSets S k bytes = map (setOf (S .n)) (finish S k (decode bytes))
 
 -- A record that can be ended into a buffer: k sets and k letters have room, and some state is reached.

@@ -10,7 +10,7 @@ ghost use Rattle.semiautomata.specs.Sizes.{maxLookahead};
 ghost use Rattle.streaming.specs.PlainWalk.{limit};
 ghost use Rattle.records.specs.Bytes.{heldFrom};
 ghost use Rattle.deciding.specs.Replies.{said};
-ghost use Rattle.deciding.specs.Deciding.{standing, resolving, opening, judged, Endable, ListsOpen};
+ghost use Rattle.deciding.specs.Deciding.{standing, resolving, opening, decision, Endable, ListsOpen};
 ghost use Rattle.deciding.specs.inner.Parts.{baseSet, ReadOn, dueAfter};
 use records::HELD_FROM;
 
@@ -120,7 +120,7 @@ pub fn decide(
     letter: u32,
 ) -> Answer
     requires { ⌜ Fit n m (now sets) × (starts < 2 ^ n) × (heldFrom + k ≤ length (now rec)) × (k ≤ maxLookahead) ⌝ }
-    ensures { λ r. ⌜ said r ≡ judged (successors n m starts (now (sets .entry))) k (now (rec .entry)) letter .reply ⌝ }
+    ensures { λ r. ⌜ said r ≡ decision (successors n m starts (now (sets .entry))) k (now (rec .entry)) letter .reply ⌝ }
 {
     let here = stand(sets, n, m, k, starts, rec);
     if here == 0 {

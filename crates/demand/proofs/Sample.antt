@@ -19,7 +19,7 @@ use Rattle.records.specs.Bytes.{tidy}
 use Rattle.deciding.specs.declared.Answer.the-variants.{Refused, Resolved, Nothing}
 use Rattle.predictor.specs.Calls.{openedOn, fedOn, Opens, Feeds}
 use Rattle.demand.specs.Demand.{Made, none, more, Walk}
-use Rattle.demand.specs.Sample.{planA, tableA, offered, answers, OnPlanA}
+use Rattle.demand.specs.Sample.{planA, tableA, offered, answersOnA, OnPlanA}
 use Rattle.demand.proofs.Theorems.{walked-right}
 use Rattle.samples.proofs.Plans.{samples-hold}
 
@@ -85,7 +85,7 @@ refused-256 : Feeds tableA (after 3 1) 256 (Refused 12) (after 3 1)
 unfolding fedOn unfit tidy sound base limit settle soleAt walkable possible spells step any size least has
 refused-256 = (refl, refl)
 
-walk : Walk tableA 1 offered Nothing answers
+walk : Walk tableA 1 offered Nothing answersOnA
 walk = record {
   bytes = lent;
   room = omega arith;
@@ -98,6 +98,6 @@ pub sample : OnPlanA
 sample = record {
   made = made;
   walk = walk;
-  demand3 = walked-right (asked planA) (asked-proper planA) 1 tableA made offered Nothing answers walk (λ r e. let z : _≡_ {A = ℕ} 0 1 =
+  demand3 = walked-right (asked planA) (asked-proper planA) 1 tableA made offered Nothing answersOnA walk (λ r e. let z : _≡_ {A = ℕ} 0 1 =
       cc in absurd (omega arith));
 }

@@ -25,10 +25,9 @@ use Rattle.plan.specs.Asked.{Asked, Proper}
 use Rattle.plan.specs.Bytes.{meaning, asked}
 use Rattle.plan.proofs.Refusals.{well-formed-within, asked-proper}
 use Rattle.prepare.proofs.Theorems.{table-read, theorems as preparing-theorems}
-use Rattle.table.specs.Table.{lookaheadOf, tableMeaning, unfit}
+use Rattle.table.specs.Table.{lookaheadOf, tableMeaning, unfit, contents}
 use Rattle.table.proofs.Fitness.{fitting, lookahead-le}
 use Rattle.table.proofs.Form.{Reads}
-use Rattle.prepare.specs.Preparing.{holding}
 use Rattle.deciding.specs.declared.Answer.{Answer}
 use Rattle.records.specs.Bytes.{heldFrom, decode, tidy}
 use Rattle.deciding.specs.Replies.{said}
@@ -101,7 +100,7 @@ module _ (table : List ℕ) (fit : unfit table ≡ false) (P : Predictable (tabl
 
 -- OF THE PLAN THAT THE TABLE WAS MADE FROM
 module _ (A : Asked) (P : Proper A) (k : ℕ) (table : List ℕ) (made : Made A k table) where
-  pub t : Reads (holding A k) table
+  pub t : Reads (contents (A .means) k) table
   t = table-read A P (made .old) (made .old-letters) (made .letters) (made .prepared)
 
   abbrev S : Semiautomaton

@@ -73,7 +73,7 @@ pub record RowHolds (plan : List ℕ) (lookahead : Option ℕ) (sayings : List S
   pub drew : (x : ℕ) → Draws (asked plan) x → x ≡ drawn lookahead
   pub so : AllSo plan sayings
 
--- The sample holds, and the row.
+-- The sample is as said, and the row holds.
 abbrev pub AllRows : List Row → Type 0
 AllRows [] = Unit {0}
 AllRows (r ∷ rs) = AsSaid (r .sample) × RowHolds (bytes (r .sample)) (r .sample .lookahead) (r .sayings) × AllRows rs

@@ -21,8 +21,8 @@ tableA = 3 ∷ 1 ∷ 1 ∷ 1 ∷ 2 ∷ 6 ∷ 0 ∷ 9 ∷ []
 abbrev pub offered : List ℕ
 offered = 0 ∷ 1 ∷ 0 ∷ 0 ∷ 256 ∷ []
 
-abbrev pub answers : List Answer
-answers = Resolved 0 0 ∷ Refused 12 ∷ Resolved 1 1 ∷ Resolved 2 1 ∷ Refused 12 ∷ []
+abbrev pub answersOnA : List Answer
+answersOnA = Resolved 0 0 ∷ Refused 12 ∷ Resolved 1 1 ∷ Resolved 2 1 ∷ Refused 12 ∷ []
 
 abbrev pub repliesOnA : List Reply
 repliesOnA = nothing ∷ resolved 0 0 ∷ refused 12 ∷ resolved 1 1 ∷ resolved 2 1 ∷ refused 12 ∷ []
@@ -30,7 +30,7 @@ repliesOnA = nothing ∷ resolved 0 0 ∷ refused 12 ∷ resolved 1 1 ∷ resolv
 pub record OnPlanA : Type 0 where
   -- preparing's promise allows this table
   pub made : Made (asked planA) 1 tableA
-  -- the promises of opening and of a leg allow these answers
-  pub walk : Walk tableA 1 offered Nothing answers
+  -- the promises of opening and of a leg allow these answersOnA
+  pub walk : Walk tableA 1 offered Nothing answersOnA
   -- demand 3 of them
   pub demand3 : Demand3 (meaning planA) 1 offered repliesOnA

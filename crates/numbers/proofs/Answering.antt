@@ -3,22 +3,23 @@
 use Prim.Native.Nat.{ℕ, _≤_}
 use mathlib.Core.Bool.{true}
 use mathlib.Core.Path.{_≡_, refl}
-use mathlib.Core.List.{List, _++_}
+use mathlib.Core.List.{List, [], _∷_, _++_}
 use native.Mathlib.Omega.{arith}
 use Rattle.refusals.specs.Checks.{Check, firstOf, short, Numbered}
 use Rattle.refusals.specs.Groups.{lastRefusal}
 use Rattle.refusals.proofs.First.{first-le, first-both, numbered-both}
-use Rattle.numbers.specs.Numbers.{Numbers, refusing, PassesOn, answers, refuses, Number, refusal as refusal-number}
+use Rattle.refusals.specs.Outcomes.{refusing}
+use Rattle.numbers.specs.Numbers.{Numbers, PassesOn, answers, refuses, Number, refusal as refusal-number}
 
 pub refused-number : (cs : List Check) → Numbered lastRefusal cs → {r : ℕ} → r ≡ firstOf cs → ¬ (r ≡ 0) → Number (refusing r)
 refused-number cs n {r} e z = let h = first-le lastRefusal cs n in refusal-number r (omega (arith, z)) (omega (arith, h, e)) refl
 
 -- for want of room some refusal is given
-no-room : (cs : List Check) → Numbered lastRefusal cs → (1 ≤ firstOf (cs ++ short true)) × (firstOf (cs ++ short true) ≤ lastRefusal)
+no-room : (cs : List Check) → Numbered lastRefusal cs → (1 ≤ firstOf (cs ++ (short true ∷ []))) × (firstOf (cs ++ (short true ∷ [])) ≤ lastRefusal)
 no-room cs n =
-    let z : ¬ (firstOf (cs ++ short true) ≡ 0) = λ z. let (_, nine) = first-both lastRefusal cs (short true) n .0 z in
+    let z : ¬ (firstOf (cs ++ (short true ∷ [])) ≡ 0) = λ z. let (_, nine) = first-both lastRefusal cs (short true ∷ []) n .0 z in
     absurd (omega (arith, nine)) in
-    (omega (arith, z), first-le lastRefusal (cs ++ short true) (numbered-both lastRefusal cs (short true) n refl))
+    (omega (arith, z), first-le lastRefusal (cs ++ (short true ∷ [])) (numbered-both lastRefusal cs (short true ∷ []) n refl))
 
 module _ {A : Type 0} {numbers : A → Numbers} {room : ℕ} {before : List Check} {Meets : A → Type 0} {Kept : Type 0}
     (n : Numbered lastRefusal before) (f : (a : A) → Meets a → Number (numbers a .first)) where

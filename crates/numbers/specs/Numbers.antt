@@ -1,14 +1,14 @@
 -- Outcomes in numbers, as C gets them (include/gawherino.h): one number, a value below 65,536 or 65,536 plus the refusal, and further
 -- values, which go to the front of a lent slice.
 -- Assumes nothing.
-use Prim.Native.Nat.{ℕ, _+_, _≤_, _<_}
+use Prim.Native.Nat.{ℕ, _≤_, _<_}
 use mathlib.Core.Bool.{true}
 use mathlib.Core.Path.{_≡_}
-use mathlib.Core.List.{List, [], _++_}
+use mathlib.Core.List.{List, [], _∷_, _++_}
 use lib.ListN.{length, drop}
 use Rattle.refusals.specs.Checks.{Check, firstOf, short}
 use Rattle.refusals.specs.Groups.{lastRefusal}
-use Rattle.refusals.specs.Outcomes.{Outcome, refused, answered}
+use Rattle.refusals.specs.Outcomes.{Outcome, refused, answered, refusing}
 use Rattle.refusals.specs.declared.Group.{Group}
 use Rattle.refusals.specs.declared.Group.the-variants.{Author, Caller, Logger, Nobody}
 
@@ -18,9 +18,6 @@ pub record Numbers : Type 0 where
 
 abbrev pub valued : ℕ → List ℕ → Numbers
 valued first further = record { first = first; further = further }
-
-abbrev pub refusing : ℕ → ℕ
-refusing r = 65536 + r
 
 -- A refusal has no further values; each call says how its values are numbered.
 abbrev pub inNumbers : {A : Type 0} → (A → Numbers) → Outcome A → Numbers
@@ -36,7 +33,7 @@ pub record Passed (a : Numbers) (r : ℕ) (old more : List ℕ) : Type 0 where
 
 -- Refused for want of room for further values: the first refusal that applies of those before 9, or 9.
 abbrev pub noRoom : List Check → ℕ
-noRoom before = refusing (firstOf (before ++ short true))
+noRoom before = refusing (firstOf (before ++ (short true ∷ [])))
 
 -- What a call gives that may have so many further values: with room for them the numbers of an answer that meets the promise of the
 -- call it stands for; else it is refused, and all that it is lent is kept.

@@ -3,6 +3,7 @@
 use Prim.Native.Nat.{ℕ}
 use mathlib.Core.Bool.{Bool, true, false, cond}
 use mathlib.Core.Path.{_≡_, sym, _∙_}
+use mathlib.Core.List.{[], _∷_}
 use mathlib.Core.Logic.{_⊎_, inl, inr}
 use native.Mathlib.Omega.{arith}
 use lib.Dec.{eqb}
@@ -16,11 +17,11 @@ module _ (A : Asked) (P : Proper A) where
   -- 9 is looked at where no check applies; else it does not matter
   pub refused-passing : Passes A → (b : Bool) → refusalWith A b ≡ cond b 9 0
   unfolding refusalOf refusalWith
-  refused-passing w b = first-behind highest (A .checks) (short b) (P .numbered) w
+  refused-passing w b = first-behind highest (A .checks) (short b ∷ []) (P .numbered) w
 
   pub refused-unread : ¬ Passes A → (b : Bool) → refusalWith A b ≡ refusalOf A
   unfolding refusalOf refusalWith
-  refused-unread n b = first-before (A .checks) (short b) n
+  refused-unread n b = first-before (A .checks) (short b ∷ []) n
 
   passing : Passes A ⊎ ¬ Passes A
   passing = elim (decided (eqb (refusalOf A) 0)) [ inl e ↦ inl (eqb-true (refusalOf A) 0 e) | inr e ↦ inr (eqb-false (refusalOf A) 0 e) ]

@@ -1,9 +1,10 @@
--- What a call asks of plan bytes: all that preparing, counting and checking a claim know of them.
+-- What a call asks of plan bytes: all that preparing, counting and checking a claim know of them; and its refusal where it looks at its
+-- lent buffers next.
 -- Assumes nothing.
 use Prim.Native.Nat.{ℕ}
 use mathlib.Core.Bool.{Bool}
 use mathlib.Core.Path.{_≡_}
-use mathlib.Core.List.{List, _++_}
+use mathlib.Core.List.{List, [], _∷_, _++_}
 use Rattle.semiautomata.specs.Semiautomaton.{Semiautomaton}
 use Rattle.semiautomata.specs.Sizes.{Sized}
 use Rattle.refusals.specs.Checks.{Check, firstOf, short, Numbered}
@@ -19,7 +20,7 @@ refusalOf A = firstOf (A .checks)
 
 -- The same of a call that looks at its lent buffers next: what is asked, and then 9.
 unfoldable pub refusalWith : Asked → Bool → ℕ
-refusalWith A applies = firstOf (A .checks ++ short applies)
+refusalWith A applies = firstOf (A .checks ++ (short applies ∷ []))
 
 -- No check applies.
 abbrev pub Passes : Asked → Type 0

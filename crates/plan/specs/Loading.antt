@@ -9,6 +9,7 @@ use Rattle.semiautomata.specs.Successors.{successors, Fit}
 use Rattle.plan.specs.declared.Loaded.{Loaded}
 use Rattle.plan.specs.declared.Loaded.the-variants.{Plan, Refused}
 use Rattle.plan.specs.Asked.{Asked, refusalOf, Passes}
+use Rattle.semiautomata.specs.Sizes.{maxSets}
 use Rattle.plan.specs.Bytes.{PlanCounts}
 
 -- The numbers hold S: its counts, its initial states and its successor sets.
@@ -21,4 +22,4 @@ pub record Holds (S : Semiautomaton) (n m starts : ℕ) (sets : List ℕ) : Type
 abbrev pub Loads : Asked → PlanCounts → List ℕ → Loaded → Type 0
 Loads A counts sets (Refused r) = (r ≡ refusalOf A) × ¬ (r ≡ 0)
 Loads A counts sets (Plan n m p e starts) =
-    Passes A × Holds (A .means) n m starts sets × (counts ≡ record { n = n; m = m; p = p; e = e }) × (length sets ≡ 2048)
+    Passes A × Holds (A .means) n m starts sets × (counts ≡ record { n = n; m = m; p = p; e = e }) × (length sets ≡ maxSets)

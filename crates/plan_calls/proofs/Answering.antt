@@ -3,7 +3,7 @@
 use Prim.Native.Nat.{ℕ}
 use mathlib.Core.Bool.{Bool}
 use mathlib.Core.Path.{_≡_, refl}
-use mathlib.Core.List.{List, _++_}
+use mathlib.Core.List.{List, [], _∷_, _++_}
 use native.Mathlib.Omega.{arith}
 use Rattle.refusals.specs.Checks.{short, Numbered}
 use Rattle.refusals.specs.Groups.{lastRefusal}
@@ -24,8 +24,9 @@ use Rattle.lookahead.specs.declared.Evidence.{Evidence}
 use Rattle.claim.specs.declared.Checked.{Checked}
 use Rattle.claim.specs.declared.Checked.the-variants as claim
 use Rattle.claim.specs.Checking.{Checks}
-use Rattle.numbers.specs.Numbers.{refusing, Number, value, refusal as refusal-number}
+use Rattle.numbers.specs.Numbers.{Number, value, refusal as refusal-number}
 use Rattle.numbers.proofs.Answering.{refused-number}
+use Rattle.refusals.specs.Outcomes.{refusing}
 use Rattle.plan_calls.specs.Promises.{ofReading, ofPrepared, ofChecked}
 
 module _ (A : Asked) (P : Proper A) where
@@ -38,7 +39,7 @@ module _ (A : Asked) (P : Proper A) where
 
   short-number : (b : Bool) {r : ℕ} → r ≡ refusalWith A b → ¬ (r ≡ 0) → Number (refusing r)
   unfolding refusalWith
-  short-number b = refused-number (A .checks ++ short b) (numbered-both lastRefusal (A .checks) (short b) asked-numbered refl)
+  short-number b = refused-number (A .checks ++ (short b ∷ [])) (numbered-both lastRefusal (A .checks) (short b ∷ []) asked-numbered refl)
 
   pub prepared-number : (old table old′ letters : List ℕ) (a : Prepared) → Prepares A a old table old′ letters
       → Number (ofPrepared a .first)

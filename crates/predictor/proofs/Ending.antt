@@ -15,7 +15,7 @@ use Rattle.table.specs.declared.Head.{Head}
 use Rattle.table.proofs.Fitness.{Fitting, fitting-fit}
 use Rattle.table.proofs.Heads.{over, Headed}
 use Rattle.records.specs.Bytes.{heldFrom, decode, tidy}
-use Rattle.deciding.specs.Deciding.{standing, openSets}
+use Rattle.deciding.specs.Deciding.{standing, ListsOpen}
 use Rattle.deciding.proofs.Standing.{standing-some, standing-none}
 use Rattle.predictor.specs.declared.Ended.the-variants.{Open, Refused}
 use Rattle.predictor.specs.Calls.{endRefusal, Ends}
@@ -65,13 +65,10 @@ module _ (table bytes old : List ℕ) where
             let d = standing-none (by-table (h .fits)) (lookaheadOf table) bytes (rw (h .k-is) at (long .0)) (same .1) z in
             (rw (h .sound, rw (h .k-is) at e, d), λ z. omega arith, refl)
 
-        pub end-on : ¬ (here ≡ 0) → {count : ℕ} {out : List ℕ} → let opens = openSets (over table head (head .starts)) (head .k) bytes in
-            (count ≡ length opens) × (out ≡ opens ++ drop (length opens) old) → Ends table bytes (Open count) old out
-        unfolding openSets
+        pub end-on : ¬ (here ≡ 0) → {count : ℕ} {out : List ℕ} → ListsOpen (over table head (head .starts)) (head .k) bytes count old out
+            → Ends table bytes (Open count) old out
         end-on n {count} {out} r =
-            let s = standing-some (by-table (h .fits)) (lookaheadOf table) bytes (rw (h .k-is) at (long .0)) (same .1) n in
-            let opens : Semiautomaton → ℕ → Type 0 =
-            λ S k. (count ≡ length (openSets S k bytes)) × (out ≡ openSets S k bytes ++ drop (length (openSets S k bytes)) old) in (
+            let s = standing-some (by-table (h .fits)) (lookaheadOf table) bytes (rw (h .k-is) at (long .0)) (same .1) n in (
               end-0 table bytes (length old) (h .fits) (rw (h .k-is) at e) (s .tidied) (s .is-sound),
-              rw (h .k-is) at (subst (λ (S : Semiautomaton). opens S (head .k)) (h .means) r),
+              rw (h .k-is) at (subst (λ (S : Semiautomaton). ListsOpen S (head .k) bytes count old out) (h .means) r),
             )

@@ -16,7 +16,7 @@ use Rattle.streaming.specs.Streaming.{Rec, latest, settle, after, unopened, ope
 use Rattle.records.specs.Bytes.{decode}
 use Rattle.records.specs.Taking.{takenInto, startedInto}
 use Rattle.deciding.specs.Replies.{isRefusal}
-use Rattle.deciding.specs.Deciding.{judgeChecks, judged}
+use Rattle.deciding.specs.Deciding.{decisionChecks, decision}
 use Rattle.predictor.specs.Calls.{written, onto}
 use Rattle.predictor.specs.inner.Parts.{lastAfter, fedInto, openedInto, Ready}
 
@@ -52,16 +52,16 @@ module _ (S : Semiautomaton) (k : ℕ) (bytes : List ℕ) (a : ℕ) where
   abbrev left : Reply → Rec
   left = after k (decode bytes) (suc (decode bytes .fed)) (decode bytes .held ++ (a ∷ []))
 
-  pub judged-state : onto k bytes (judged S k bytes a) .state ≡ fedInto k bytes a (judged S k bytes a .reply)
-  unfolding judged fedInto
+  pub judged-state : onto k bytes (decision S k bytes a) .state ≡ fedInto k bytes a (decision S k bytes a .reply)
+  unfolding decision fedInto
   judged-state =
-      ap (λ (r : Rec). written k bytes r (judged S k bytes a .reply))
-      (checked-state (decode bytes) left (λ _. refl) settling (judgeChecks S k bytes a))
+      ap (λ (r : Rec). written k bytes r (decision S k bytes a .reply))
+      (checked-state (decode bytes) left (λ _. refl) settling (decisionChecks S k bytes a))
 
-  pub judged-ready : S .m ≤ 32 → {reply : Reply} → reply ≡ judged S k bytes a .reply → Ready k bytes a reply
-  unfolding judged
+  pub judged-ready : S .m ≤ 32 → {reply : Reply} → reply ≡ decision S k bytes a .reply → Ready k bytes a reply
+  unfolding decision
   judged-ready few is e =
-      let (t, (l, (m, _))) = checked-passed (decode bytes) left (λ _. refl) settling (judgeChecks S k bytes a) (rw is at e) in
+      let (t, (l, (m, _))) = checked-passed (decode bytes) left (λ _. refl) settling (decisionChecks S k bytes a) (rw is at e) in
       (and-out _ _ (not-false _ t) .0, leb-false _ _ l, omega (arith, leb-false (S .m) a m))
 
 -- a refusal keeps the bytes

@@ -19,7 +19,7 @@ use Rattle.records.specs.Bytes.{heldFrom, decode, tidy}
 use Rattle.deciding.specs.declared.Answer.{Answer}
 use Rattle.deciding.specs.declared.Answer.the-variants.{Refused}
 use Rattle.deciding.specs.Replies.{said}
-use Rattle.deciding.specs.Deciding.{opening, judgeChecks, judged}
+use Rattle.deciding.specs.Deciding.{opening, decisionChecks, decision}
 use Rattle.deciding.proofs.Standing.{By, by-sets}
 use Rattle.deciding.proofs.Judging.{opening-is}
 use Rattle.predictor.specs.Calls.{onto, openedOn, fedOn, Opens, Feeds}
@@ -58,10 +58,10 @@ module _ (table bytes : List ℕ) where
     opened-on = rw (f, le-ltb (length bytes) (heldFrom + lookaheadOf table) room)
         (onto-checked _ bytes (openChecks (tableMeaning table)) unopened _)
 
-    pub judged-on : (a : ℕ) → fedOn table bytes a ≡ onto (lookaheadOf table) bytes (judged (tableMeaning table) (lookaheadOf table) bytes a)
-    unfolding fedOn judged
+    pub judged-on : (a : ℕ) → fedOn table bytes a ≡ onto (lookaheadOf table) bytes (decision (tableMeaning table) (lookaheadOf table) bytes a)
+    unfolding fedOn decision
     judged-on a = rw (f, le-ltb (length bytes) (heldFrom + lookaheadOf table) room)
-        (onto-checked _ bytes (judgeChecks (tableMeaning table) (lookaheadOf table) bytes a) (decode bytes) _)
+        (onto-checked _ bytes (decisionChecks (tableMeaning table) (lookaheadOf table) bytes a) (decode bytes) _)
 
     pub fed-on : (a : ℕ) → tidy (lookaheadOf table) bytes ≡ true
         → fedOn table bytes a ≡ onto (lookaheadOf table) bytes (feed (tableMeaning table) (lookaheadOf table) (decode bytes) a)
@@ -83,7 +83,7 @@ module _ (table bytes : List ℕ) where
     feed-9 a e = rw (h .sound, short e) (refl, refl)
 
     -- what is not refused can be taken
-    pub feed-ready : (a : ℕ) {reply : Reply} → reply ≡ judged (over table head (head .starts)) (head .k) bytes a .reply
+    pub feed-ready : (a : ℕ) {reply : Reply} → reply ≡ decision (over table head (head .starts)) (head .k) bytes a .reply
         → Ready (head .k) bytes a reply
     feed-ready a = judged-ready (over table head (head .starts)) (head .k) bytes a (h .fit .letters)
 
@@ -98,13 +98,13 @@ module _ (table bytes : List ℕ) where
           let into : left ≡ openedInto k bytes (said answer) = rw (h .k-is) at d in
           rw on (reply, into ∙ ap (openedInto k bytes) reply ∙ sym (opened-state S k bytes))
 
-      pub feed-on : (a : ℕ) → said answer ≡ judged (over table head (head .starts)) (head .k) bytes a .reply
+      pub feed-on : (a : ℕ) → said answer ≡ decision (over table head (head .starts)) (head .k) bytes a .reply
           → left ≡ fedInto (head .k) bytes a (said answer) → Feeds table bytes a answer left
       feed-on a e d =
           let S = tableMeaning table in
           let k = lookaheadOf table in
           let on = judged-on (h .sound) (rw (h .k-is) at room) a in
-          let reply : said answer ≡ judged S k bytes a .reply =
-          rw (h .k-is) at (subst (λ (S : Semiautomaton). said answer ≡ judged S (head .k) bytes a .reply) (h .means) e) in
+          let reply : said answer ≡ decision S k bytes a .reply =
+          rw (h .k-is) at (subst (λ (S : Semiautomaton). said answer ≡ decision S (head .k) bytes a .reply) (h .means) e) in
           let into : left ≡ fedInto k bytes a (said answer) = rw (h .k-is) at d in
           rw on (reply, into ∙ ap (fedInto k bytes a) reply ∙ sym (judged-state S k bytes a))

@@ -4,26 +4,25 @@
 use Prim.Native.Nat.{ℕ, _+_}
 use mathlib.Core.Bool.{_||_}
 use mathlib.Core.Path.{_≡_}
-use mathlib.Core.List.{List, [], _∷_, _++_, map}
+use mathlib.Core.List.{List, [], _∷_, _++_}
 use lib.Dec.{ltb}
 use lib.ListN.{length, drop}
-use Rattle.bitset.specs.Numbers.{setOf}
 use Rattle.streaming.specs.Calls.{Reply, refused, resolved, nothing, Result, checked}
-use Rattle.refusals.specs.Checks.{Check, firstOf}
+use Rattle.refusals.specs.Checks.{Check, firstOf, short}
 use Rattle.refusals.specs.Outcomes.{Outcome, answered, Gives}
 use Rattle.refusals.specs.Outcomes as outcomes
-use Rattle.streaming.specs.Streaming.{Rec, unopened, openChecks, settled, takeChecks, settledBy, finish}
-use Rattle.table.specs.Table.{statesOf, lookaheadOf, tableMeaning, tableCheck}
+use Rattle.streaming.specs.Streaming.{Rec, unopened, openChecks, settled, settledBy}
+use Rattle.table.specs.Table.{lookaheadOf, tableMeaning, tableCheck}
 use Rattle.records.specs.Bytes.{heldFrom, decode, encode}
 use Rattle.deciding.specs.declared.Answer.{Answer}
 use Rattle.deciding.specs.Replies.{said}
-use Rattle.deciding.specs.Deciding.{bytesCheck}
+use Rattle.deciding.specs.Deciding.{bytesCheck, decisionChecks, openSets, ListsOpen}
 use Rattle.predictor.specs.declared.Ended.{Ended}
 use Rattle.predictor.specs.declared.Ended.the-variants.{Open, Refused}
 
 -- 9, of the record: fewer than 8 + k bytes.
 abbrev pub recordCheck : List ℕ → List ℕ → Check
-recordCheck table bytes = record { number = 9; applies = ltb (length bytes) (heldFrom + lookaheadOf table) }
+recordCheck table bytes = short (ltb (length bytes) (heldFrom + lookaheadOf table))
 
 -- The refusals of opening, and of a letter, that stand before 14, in order.
 abbrev pub openingChecks : List ℕ → List ℕ → List Check
@@ -31,10 +30,7 @@ openingChecks table bytes = tableCheck table ∷ recordCheck table bytes ∷ ope
 
 abbrev pub letterChecks : List ℕ → List ℕ → ℕ → List Check
 letterChecks table bytes a =
-    tableCheck table
-    ∷ recordCheck table bytes
-    ∷ bytesCheck (tableMeaning table) (lookaheadOf table) bytes
-    ∷ takeChecks (tableMeaning table) (lookaheadOf table) (decode bytes) a
+    tableCheck table ∷ recordCheck table bytes ∷ decisionChecks (tableMeaning table) (lookaheadOf table) bytes a
 
 -- What is written of a reply: nothing under a refusal, else the record's bytes, the rest of the buffer as it was.
 abbrev pub written : ℕ → List ℕ → Rec → Reply → List ℕ
@@ -68,7 +64,7 @@ Feeds table bytes letter answer left = (said answer ≡ fedOn table bytes letter
 abbrev pub endChecks : List ℕ → List ℕ → ℕ → List Check
 endChecks table bytes sets =
     tableCheck table
-    ∷ record { number = 9; applies = ltb (length bytes) (heldFrom + lookaheadOf table) || ltb sets (lookaheadOf table) }
+    ∷ short (recordCheck table bytes .applies || ltb sets (lookaheadOf table))
     ∷ bytesCheck (tableMeaning table) (lookaheadOf table) bytes
     ∷ []
 
@@ -77,7 +73,7 @@ endRefusal table bytes sets = firstOf (endChecks table bytes sets)
 
 -- The sets that ending writes, as numbers.
 abbrev pub ended : List ℕ → List ℕ → List ℕ
-ended table bytes = map (setOf (statesOf table)) (finish (tableMeaning table) (lookaheadOf table) (decode bytes))
+ended table bytes = openSets (tableMeaning table) (lookaheadOf table) bytes
 
 -- What ending answers: how many they are.
 abbrev pub outcomeOfEnded : Ended → Outcome ℕ
@@ -88,4 +84,4 @@ outcomeOfEnded (Refused r) = outcomes.refused r
 abbrev pub Ends : List ℕ → List ℕ → Ended → List ℕ → List ℕ → Type 0
 Ends table bytes a old out =
     Gives (endRefusal table bytes (length old)) (out ≡ old)
-    (λ c. (c ≡ length (ended table bytes)) × (out ≡ ended table bytes ++ drop (length (ended table bytes)) old)) (outcomeOfEnded a)
+    (λ c. ListsOpen (tableMeaning table) (lookaheadOf table) bytes c old out) (outcomeOfEnded a)

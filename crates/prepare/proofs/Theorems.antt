@@ -13,13 +13,13 @@ use Rattle.semiautomata.specs.Semiautomaton.{Semiautomaton}
 use Rattle.semiautomata.specs.Predictability.{Lookahead}
 use Rattle.refusals.specs.Outcomes.{answered}
 use Rattle.plan.specs.Asked.{Asked, Passes, Proper}
-use Rattle.table.specs.Table.{setsFrom}
+use Rattle.table.specs.Table.{setsFrom, contents}
 use Rattle.table.proofs.Form.{Reads}
 use Rattle.lookahead.specs.declared.Evidence.{Evidence}
 use Rattle.prepare.specs.declared.Prepared.the-variants as prepared
 use Rattle.claim.specs.declared.Checked.{Checked}
 use Rattle.claim.specs.declared.Checked.the-variants.{Yes, No, Refused}
-use Rattle.prepare.specs.Preparing.{Shown, Prepares, CountsTo, holding}
+use Rattle.prepare.specs.Preparing.{Shown, Prepares, CountsTo}
 use Rattle.prepare.specs.declared.Prepared.{Prepared}
 use Rattle.claim.specs.Checking.{Checks}
 use Rattle.prepare.specs.Theorems.{EitherCall, Right, Theorems, Met}
@@ -77,7 +77,7 @@ module _ (A : Asked) (P : Proper A) where
 
   -- the table that preparing leaves
   pub table-read : {k : ℕ} (old : List ℕ) {table : List ℕ} (old′ letters : List ℕ) → Prepares A (prepared.Ready k) old table old′ letters
-      → Reads (holding A k) table
+      → Reads (contents (A .means) k) table
   table-read old old′ letters ((p, a), t, _) = sized-reads (P .sized (clear-passes A P _ p)) a old t
 
   pub theorems : Theorems A

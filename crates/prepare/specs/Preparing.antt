@@ -10,7 +10,7 @@ use lib.ListN.{length, drop}
 use Rattle.semiautomata.specs.Semiautomaton.{Semiautomaton}
 use Rattle.semiautomata.specs.Predictability.{Lookahead}
 use Rattle.semiautomata.specs.Predictability as predictability
-use Rattle.refusals.specs.Outcomes.{Outcome, refused, answered}
+use Rattle.refusals.specs.Outcomes.{Outcome, refused, answered, refusing}
 use Rattle.plan.specs.Asked.{Asked, refusalOf, refusalWith}
 use Rattle.table.specs.Table.{setsFrom, Contents, contents, laidOut}
 use Rattle.lookahead.specs.declared.Evidence.{Evidence}
@@ -49,17 +49,13 @@ abbrev pub LooksAhead : ℕ → Semiautomaton → Outcome ℕ → Type 0
 LooksAhead refusal S (refused r) = ((r ≡ refusal) × ¬ (r ≡ 0)) ⊎ ((refusal ≡ 0) × (r ≡ 15) × predictability.Unpredictable S)
 LooksAhead refusal S (answered k) = (refusal ≡ 0) × Lookahead S k
 
--- What a table of the look-ahead k is to hold.
-abbrev pub holding : Asked → ℕ → Contents
-holding A k = contents (A .means) k
-
 -- What is left in the lent letters: the evidence under 15, which never comes without it, and else what stood there.
 abbrev pub LeavesLetters : Semiautomaton → Prepared → List ℕ → List ℕ → Type 0
 LeavesLetters S (Ready k) old letters = letters ≡ old
 LeavesLetters S (Refused r) old letters = ¬ (r ≡ 15) × (letters ≡ old)
 LeavesLetters S (Unpredictable e) old letters = Shown S e old letters
 
--- .. and in the lent table: its form, the rest of the buffer as it was; and else what stood there.
+-- .. and in the lent table: the form of what it is to hold with k, the rest of the buffer as it was; and else what stood there.
 abbrev pub LeavesTable : (ℕ → Contents) → Prepared → List ℕ → List ℕ → Type 0
 LeavesTable holds (Ready k) old table = table ≡ laidOut (holds k) old
 LeavesTable holds (Refused r) old table = table ≡ old
@@ -69,7 +65,7 @@ LeavesTable holds (Unpredictable e) old table = table ≡ old
 abbrev pub Prepares : Asked → Prepared → List ℕ → List ℕ → List ℕ → List ℕ → Type 0
 Prepares A a old table old′ letters =
     LooksAhead (prepareRefusal A (length old) (length old′)) (A .means) (outcomeOfPrepared a)
-    × LeavesTable (holding A) a old table
+    × LeavesTable (contents (A .means)) a old table
     × LeavesLetters (A .means) a old′ letters
 
 -- What the count call gives: the same without a table.
@@ -80,7 +76,7 @@ CountsTo A a old letters =
 -- What the drawing program's entry answers, as one number: k, or 65,536 plus the refusal.
 abbrev pub asNumber : Outcome ℕ → ℕ
 asNumber (answered k) = k
-asNumber (refused r) = 65536 + r
+asNumber (refused r) = refusing r
 
 pub record Draws (A : Asked) (r : ℕ) : Type 0 where
   pub outcome : Outcome ℕ

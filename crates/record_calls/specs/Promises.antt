@@ -10,7 +10,8 @@ use Rattle.deciding.specs.declared.Answer.{Answer}
 use Rattle.deciding.specs.Replies.{said}
 use Rattle.predictor.specs.declared.Ended.{Ended}
 use Rattle.predictor.specs.Calls.{outcomeOfEnded, Opens, Feeds, Ends}
-use Rattle.numbers.specs.Numbers.{Numbers, valued, refusing, inNumbers, Passed, PassesOn}
+use Rattle.refusals.specs.Outcomes.{refusing}
+use Rattle.numbers.specs.Numbers.{Numbers, valued, inNumbers, Passed, PassesOn}
 
 -- THE NUMBERS OF EACH OUTCOME
 

@@ -18,8 +18,8 @@ firstOf [] = 0
 firstOf (c ∷ cs) = cond (c .applies) (c .number) (firstOf cs)
 
 -- 9: a lent buffer is too short.
-abbrev pub short : Bool → List Check
-short applies = record { number = 9; applies = applies } ∷ []
+abbrev pub short : Bool → Check
+short applies = record { number = 9; applies = applies }
 
 -- x is a number from a to b
 abbrev pub within : ℕ → ℕ → ℕ → Bool

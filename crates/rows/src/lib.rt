@@ -5,6 +5,7 @@ ghost use mathlib.Core.Path.{_≡_};
 ghost use Prim.Native.Nat.{ℕ, _≤_, _<_};
 ghost use lib.ListN.{length};
 ghost use Rattle.bitset.specs.Numbers.{has};
+ghost use Rattle.semiautomata.specs.Sizes.{maxSets};
 ghost use Rattle.semiautomata.specs.Successors.{place, Fit, Blank};
 ghost use Rattle.rows.specs.Rows.{Put, Without, Union, Searched};
 ghost use Rattle.rows.specs.Turned.{Turned};
@@ -35,7 +36,7 @@ pub fn pair_up(rows: &mut [u64; 64], firsts: u64, seconds: u64)
 // The table turned round, into zeros: at each state and letter the states that the letter leads there.
 pub fn turn(back: &mut [u64; semiautomata::MAX_SETS], sets: &[u64], n: usize, m: usize)
     requires { ⌜ Fit n m (now sets) × Blank (now back) ⌝ }
-    ensures { λ r. ⌜ (length (now (back .exit)) ≡ 2048) × Turned n m (now (sets .entry)) (now (back .exit)) ⌝ }
+    ensures { λ r. ⌜ (length (now (back .exit)) ≡ maxSets) × Turned n m (now (sets .entry)) (now (back .exit)) ⌝ }
 {
     for s in 0..n {
         for a in 0..m {
@@ -50,7 +51,7 @@ pub struct Left {
     pub any: u64,
 }
 
-// The pairs of the rows but for the struck ones, which are among them.
+// The pairs of the rows but for the struck ones, where these are among them; in any case those that one of the two has and not the other.
 pub fn without(n: usize, rows: &[u64; 64], struck: &[u64; 64]) -> Left
     requires { ⌜ n ≤ 64 ⌝ }
     ensures { λ r. ⌜ Without (now (rows .entry)) (now (struck .entry)) (r .rows) n × Union (r .rows) (r .any) n ⌝ }

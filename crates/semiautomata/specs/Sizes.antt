@@ -13,6 +13,10 @@ maxLetters = 32
 abbrev pub maxLines : ℕ
 maxLines = 4096
 
+-- .. and successor sets: one for each state and letter.
+abbrev pub maxSets : ℕ
+maxSets = maxStates * maxLetters
+
 -- n is from 1 to 64, m from 1 to 32, and nothing lies outside the states and letters.
 pub record Sized (S : Semiautomaton) : Type 0 where
   pub n-low : 1 ≤ S .n

@@ -8,7 +8,7 @@ use lib.Dec.{ltb}
 use lib.ListN.{length, getD}
 use Rattle.bitset.specs.Numbers.{has}
 use Rattle.semiautomata.specs.Semiautomaton.{Semiautomaton}
-use Rattle.semiautomata.specs.Sizes.{maxStates, maxLetters}
+use Rattle.semiautomata.specs.Sizes.{maxStates, maxLetters, maxSets}
 
 -- the place of the states that letter a leads to from state q
 abbrev pub place : ℕ → ℕ → ℕ → ℕ
@@ -35,5 +35,5 @@ pub record Fit (n m : ℕ) (sets : List ℕ) : Type 0 where
 
 -- Room for the sets of the largest plan, all of them empty.
 pub record Blank (sets : List ℕ) : Type 0 where
-  pub long : length sets ≡ maxStates * maxLetters
+  pub long : length sets ≡ maxSets
   pub zero : (i : ℕ) → getD sets i 0 ≡ 0

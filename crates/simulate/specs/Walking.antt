@@ -9,7 +9,7 @@ use lib.ListN.{length, take, drop}
 use Rattle.bitset.specs.Sets.{any}
 use Rattle.bitset.specs.Numbers.{setOf}
 use Rattle.semiautomata.specs.Semiautomaton.{Semiautomaton}
-use Rattle.refusals.specs.Checks.{Check, firstOf}
+use Rattle.refusals.specs.Checks.{Check, firstOf, short}
 use Rattle.refusals.specs.Outcomes.{Outcome, refused, answered, Gives}
 use Rattle.semiautomata.specs.Lists.{range}
 use Rattle.semiautomata.specs.Walks.{possible, longest}
@@ -21,7 +21,7 @@ use Rattle.simulate.specs.declared.Walked.the-variants.{Upto, Refused}
 abbrev pub walkChecks : List ℕ → List ℕ → ℕ → List Check
 walkChecks table word out =
     tableCheck table
-    ∷ record { number = 9; applies = ltb out (suc (length word)) }
+    ∷ short (ltb out (suc (length word)))
     ∷ record { number = 12; applies = letterOff (lettersOf table) word }
     ∷ record { number = 13; applies = not (any (statesOf table) (tableMeaning table .initial)) }
     ∷ []

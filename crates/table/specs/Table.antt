@@ -39,6 +39,17 @@ setsOf table = drop setsFrom table
 abbrev pub tableMeaning : List ℕ → Semiautomaton
 tableMeaning table = successors (statesOf table) (lettersOf table) (initialOf table) (setsOf table)
 
+-- What a table holds: the semiautomaton that it means, and its look-ahead.
+pub record Contents : Type 0 where
+  pub means : Semiautomaton
+  pub lookahead : ℕ
+
+abbrev pub contents : Semiautomaton → ℕ → Contents
+contents S k = record { means = S; lookahead = k }
+
+abbrev pub contentsOf : List ℕ → Contents
+contentsOf table = contents (tableMeaning table) (lookaheadOf table)
+
 -- The tests of refusal 8, in the document's order: shorter than its form needs, n or m out of range, k above n (n - 1) / 2, a set with
 -- a bit n or higher.
 abbrev pub tableTests : List ℕ → List Bool
@@ -60,6 +71,7 @@ oneOf (b ∷ bs) = b || oneOf bs
 unfoldable pub unfit : List ℕ → Bool
 unfit table = oneOf (tableTests table)
 
+-- .. as a call's check.
 abbrev pub tableCheck : List ℕ → Check
 tableCheck table = record { number = 8; applies = unfit table }
 
@@ -75,17 +87,6 @@ headOf table = cond (unfit table) unread (front table)
 
 -- THE PREPARED FORM
 
--- What a table holds: the semiautomaton that it means, and its look-ahead.
-pub record Contents : Type 0 where
-  pub means : Semiautomaton
-  pub lookahead : ℕ
-
-abbrev pub contents : Semiautomaton → ℕ → Contents
-contents S k = record { means = S; lookahead = k }
-
-abbrev pub contentsOf : List ℕ → Contents
-contentsOf table = contents (tableMeaning table) (lookaheadOf table)
-
 -- The sets of S: for each state in order and each letter in order, the states that it leads to.
 abbrev pub setsInOrder : Semiautomaton → List ℕ
 setsInOrder S = flatMap (λ q. map (λ a. setOf (S .n) (S .edge q a)) (range 0 (S .m))) (range 0 (S .n))
@@ -98,7 +99,7 @@ tableOf C = let S = C .means in S .n ∷ S .m ∷ C .lookahead ∷ setOf (S .n) 
 abbrev pub laidOut : Contents → List ℕ → List ℕ
 laidOut C old = tableOf C ++ drop (length (tableOf C)) old
 
--- What is meant has the sizes of a plan, and k is no more than a look-ahead can be.
+-- What is meant has the sizes of a plan, and its look-ahead is no more than one can be.
 pub record Preparable (C : Contents) : Type 0 where
   pub sized : Sized (C .means)
   pub lookahead : C .lookahead ≤ mostAhead (C .means .n)

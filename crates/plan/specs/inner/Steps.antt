@@ -11,6 +11,7 @@ use Rattle.plan.specs.declared.Header.{Header}
 use Rattle.plan.specs.declared.Starts.{Starts}
 use Rattle.plan.specs.declared.Lines.{Lines}
 use Rattle.plan.specs.Plan.{Plan, semiautomaton, startOff, lineOff, lineTwice}
+use Rattle.semiautomata.specs.Sizes.{maxSets}
 use Rattle.plan.specs.Bytes.{lineWidth}
 
 -- What entering the parts needs of refusals 1 to 4: few states and letters, and parts that lie within the bytes.
@@ -27,7 +28,7 @@ pub record StartsEntered (P : Plan) (r : Starts) : Type 0 where
 
 -- The lines are entered, those whose numbers are below their counts; 6 is found, and 7 where 6 is not.
 pub record LinesEntered (P : Plan) (sets : List ℕ) (r : Lines) : Type 0 where
-  pub size : length sets ≡ 2048
+  pub size : length sets ≡ maxSets
   pub below : (j : ℕ) → j < P .n * P .m → getD sets j 0 < 2 ^ P .n
   pub edges : (q a t : ℕ) → q < P .n → a < P .m → t < P .n → has (setAt (P .m) sets q a) t ≡ semiautomaton P .edge q a t
   pub off-is : r .off ≡ lineOff P

@@ -1,7 +1,7 @@
 -- `pass_answer` meets its contract.
 -- Assumes nothing.
 use mathlib.Core.Path.{refl}
-use Rattle.numbers.proofs.Rooms.{stored-one}
+use Rattle.numbers.proofs.Storing.{stored-one}
 use borrow.Author.Needs.{needs}
 use Rattle.record_calls.proofs.pass_answer.Statement.{statement}
 use Rattle.record_calls.proofs.pass_answer.Tie as tie

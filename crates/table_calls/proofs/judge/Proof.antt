@@ -3,7 +3,7 @@
 use mathlib.Core.Path.{refl}
 use native.Mathlib.Omega.{arith}
 use Rattle.numbers.specs.Numbers.{answers, refuses}
-use Rattle.numbers.proofs.Rooms.{stored-two, bit-of}
+use Rattle.numbers.proofs.Storing.{stored-two, bit-of}
 use borrow.Author.Needs.{needs}
 use Rattle.table_calls.proofs.judge.Statement.{statement}
 use Rattle.table_calls.proofs.judge.Tie as tie

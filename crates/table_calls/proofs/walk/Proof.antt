@@ -3,7 +3,7 @@
 use mathlib.Core.Path.{refl}
 use native.Mathlib.Omega.{arith}
 use Rattle.numbers.specs.Numbers.{answers, refuses}
-use Rattle.numbers.proofs.Rooms.{stored-one}
+use Rattle.numbers.proofs.Storing.{stored-one}
 use borrow.Author.Needs.{needs}
 use Rattle.table_calls.proofs.walk.Statement.{statement}
 use Rattle.table_calls.proofs.walk.Tie as tie

@@ -1,4 +1,4 @@
--- Values that are stored at the front of a slice.
+-- Values that are stored at the front of a slice, and a test as a number.
 -- Assumes nothing.
 use Prim.Native.Nat.{ℕ, _≤_}
 use mathlib.Core.Bool.{Bool, true, false}
