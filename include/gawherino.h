@@ -197,6 +197,8 @@ uint32_t gawherino_walk(const uint64_t *table, size_t table_len, const uint8_t *
 uint32_t gawherino_judge(const uint64_t *table, size_t table_len, uint32_t state, uint32_t letter, const uint8_t *word, size_t word_len,
                          uint64_t *sets, size_t sets_len);
 
+/* CALLS ON A WALK'S RECORD */
+
 /* Opening a walk on a record (8 + k bytes, of any content): the booked stake, with its position into position (1), or 255 if none was
  * booked. Refused with 8, 9, 13, 14. */
 uint32_t gawherino_open(const uint64_t *table, size_t table_len, uint8_t *rec, size_t rec_len, uint32_t *position, size_t position_len);

@@ -15,7 +15,7 @@ use lib.Seq.{length-take-le, getD-take, getD-drop, take-add}
 use borrow.Author.Tests.{lt-ltb, le-ltb, ltb-false, lt-leb, leb-true, leb-false, eq-eqb, ne-eqb, eqb-true, eqb-false, not-false}
 use Rattle.bitset.specs.Sets.{any, single}
 use Rattle.bitset.specs.Numbers.{has, setOf}
-use Rattle.bitset.proofs.Tests.{and-in, and-out, or-cases, decided}
+use Rattle.bitset.proofs.Tests.{and-in, and-out, or-cases, decided, or-none}
 use Rattle.bitset.proofs.Below.{any-in, any-not, with-any}
 use Rattle.bitset.proofs.Bits.{has-empty, has-lt, setOf-lt, has-setOf, is-setOf, setOf-has, pow-setOf, has-shl, meets-none, meets-some}
 use Rattle.semiautomata.specs.Semiautomaton.{Semiautomaton, Within, Path}
@@ -28,7 +28,6 @@ use Rattle.semiautomata.proofs.Shares.{member-lt}
 use Rattle.semiautomata.proofs.Successors.{place-lt, edge-is}
 use Rattle.walks.specs.Walking.{Letters}
 use Rattle.walks.proofs.Steps.{bare, bare-within}
-use Rattle.plan.proofs.Tests.{or-none}
 use Rattle.lookahead.specs.declared.Evidence.{Evidence}
 use Rattle.lookahead.specs.Answers.{TrueOf}
 use Rattle.claim.specs.inner.Steps.{NamedSet, LedBack, Loops}

@@ -9,7 +9,7 @@ ghost use Rattle.semiautomata.specs.Successors.{successors, Fit};
 ghost use Rattle.semiautomata.specs.Sizes.{maxLookahead};
 ghost use Rattle.streaming.specs.PlainWalk.{limit};
 ghost use Rattle.records.specs.Bytes.{heldFrom};
-ghost use Rattle.deciding.specs.Replies.{said};
+ghost use Rattle.deciding.specs.Replies.{said, isRefusal};
 ghost use Rattle.deciding.specs.Deciding.{standing, resolving, opening, decision, Endable, ListsOpen};
 ghost use Rattle.deciding.specs.inner.Parts.{baseSet, ReadOn, dueAfter};
 use records::HELD_FROM;
@@ -186,4 +186,20 @@ pub fn list_open(
     let from = upto - count;
     slices::copy_64(out, &all[from..upto]);
     count
+}
+
+// ANSWERS
+
+// The answer is a refusal.
+pub fn is_refusal(answer: Answer) -> bool
+    ensures { λ r. ⌜ r ≡ isRefusal (said answer) ⌝ }
+{
+    match answer {
+        Answer::Refused(_) => true,
+        Answer::Resolved {
+            position: _,
+            state: _,
+        } => false,
+        Answer::Nothing => false,
+    }
 }

@@ -15,11 +15,11 @@ pub refused-number : (cs : List Check) → Numbered lastRefusal cs → {r : ℕ}
 refused-number cs n {r} e z = let h = first-le lastRefusal cs n in refusal-number r (omega (arith, z)) (omega (arith, h, e)) refl
 
 -- for want of room some refusal is given
-no-room : (cs : List Check) → Numbered lastRefusal cs → (1 ≤ firstOf (cs ++ (short true ∷ []))) × (firstOf (cs ++ (short true ∷ [])) ≤ lastRefusal)
+no-room : (cs : List Check) → Numbered lastRefusal cs → let r = firstOf (cs ++ (short true ∷ [])) in (1 ≤ r) × (r ≤ lastRefusal)
 no-room cs n =
-    let z : ¬ (firstOf (cs ++ (short true ∷ [])) ≡ 0) = λ z. let (_, nine) = first-both lastRefusal cs (short true ∷ []) n .0 z in
-    absurd (omega (arith, nine)) in
-    (omega (arith, z), first-le lastRefusal (cs ++ (short true ∷ [])) (numbered-both lastRefusal cs (short true ∷ []) n refl))
+    let nine = short true ∷ [] in
+    let z : ¬ (firstOf (cs ++ nine) ≡ 0) = λ z. omega (arith, first-both lastRefusal cs nine n .0 z .1) in
+    (omega (arith, z), first-le lastRefusal (cs ++ nine) (numbered-both lastRefusal cs nine n refl))
 
 module _ {A : Type 0} {numbers : A → Numbers} {room : ℕ} {before : List Check} {Meets : A → Type 0} {Kept : Type 0}
     (n : Numbered lastRefusal before) (f : (a : A) → Meets a → Number (numbers a .first)) where

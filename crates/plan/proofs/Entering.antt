@@ -2,7 +2,7 @@
 -- Assumes nothing.
 use Prim.Native.Nat.{ℕ, suc, _+_, _*_, _^_, _%_, _/_, _≤_, _<_}
 use mathlib.Core.Bool.{Bool, true, false, not, _&&_, _||_, true≢false, and-true, and-false, or-true, or-false, or-assoc}
-use mathlib.Core.Path.{_≡_, refl, sym, _∙_, ap}
+use mathlib.Core.Path.{_≡_, refl, sym, _∙_}
 use mathlib.Core.Logic.{_⊎_, inl, inr}
 use mathlib.Core.List.{List}
 use native.Mathlib.Omega.{arith}
@@ -17,14 +17,14 @@ use lib.Pow.{pow-lt, pow-pos}
 use borrow.Author.Tests.{lt-ltb, ltb-true, lt-leb, leb-false, eqb-true, eq-eqb}
 use Rattle.bitset.specs.Sets.{any, single}
 use Rattle.bitset.specs.Numbers.{has, setOf}
-use Rattle.bitset.proofs.Tests.{decided, and-out, not-so}
+use Rattle.bitset.proofs.Tests.{decided, and-out, not-so, or-none}
 use Rattle.bitset.proofs.Bits.{has-or, has-and, has-empty, has-setOf, has-insert, has-test, shl-one, same-members}
 use Rattle.semiautomata.specs.Successors.{place, Blank}
 use Rattle.semiautomata.proofs.Successors.{place-lt}
 use Rattle.semiautomata.proofs.Places.{size-le, place-same}
 use Rattle.plan.specs.Plan.{Line, Plan, says, semiautomaton, twice, startHigh, startOff, lineFits}
 use Rattle.plan.specs.inner.Steps.{StartsEntered, LinesEntered}
-use Rattle.plan.proofs.Tests.{or-none, not-and, not-ltb}
+use Rattle.plan.proofs.Tests.{not-and, not-ltb}
 
 -- the plan with the first i of its starts, or of its lines
 abbrev pub startsTo : ℕ → Plan → Plan

@@ -14,7 +14,7 @@ use Rattle.bitset.proofs.Tests.{decided, not-so}
 use Rattle.bitset.proofs.Bits.{has-setOf, has-high, setOf-lt}
 use Rattle.semiautomata.specs.Semiautomaton.{Semiautomaton, Within}
 use Rattle.refusals.specs.Checks.{firstOf}
-use Rattle.semiautomata.specs.Successors.{place, Blank}
+use Rattle.semiautomata.specs.Successors.{place}
 use Rattle.semiautomata.proofs.Successors.{place-lt, successors-are}
 use Rattle.plan.specs.declared.Header.{Header}
 use Rattle.plan.specs.declared.Starts.{Starts}

@@ -9,7 +9,7 @@ use native.Mathlib.Omega.{arith}
 use lib.Dec.{eqb, ltb, leb}
 use lib.ListN.{length}
 use borrow.Author.Tests.{lt-ltb, ltb-false, leb-true, eqb-true, eqb-false, not-false}
-use Rattle.bitset.proofs.Tests.{and-out, decided}
+use Rattle.bitset.proofs.Tests.{and-out, decided, or-none}
 use Rattle.semiautomata.specs.Semiautomaton.{Within}
 use Rattle.refusals.specs.Checks.{within, firstOf, Numbered}
 use Rattle.refusals.proofs.First.{first-le, first-behind, first-before}
@@ -20,7 +20,6 @@ use Rattle.plan.specs.Asked.{refusalOf, Proper}
 use Rattle.plan.specs.Bytes.{headerOf, lineWidth, parsed, meaning, placed, misplaced, headerChecks, partChecks, planChecks}
 use Rattle.plan.specs.Bytes.{asked, refusal, WellFormed}
 use Rattle.plan.specs.inner.Steps.{Sound}
-use Rattle.plan.proofs.Tests.{or-none}
 use Rattle.plan.proofs.Plan.{plan-within}
 
 -- none of a list applies: not the first, and none of the rest

@@ -1,7 +1,6 @@
 -- The theorems of specs/Theorems.antt.
 -- Assumes nothing.
 use Prim.Native.Nat.{ℕ}
-use mathlib.Core.Path.{refl}
 use mathlib.Core.Logic.{inl, inr}
 use native.Mathlib.Omega.{arith}
 use Rattle.refusals.specs.Outcomes.{Outcome, refused, answered}

@@ -1,7 +1,7 @@
 -- Record bytes follow the abstract record: a call on bytes that hold a record replies as the rule without bytes, and leaves bytes that hold
 -- the record that the rule leaves.
 -- Assumes nothing.
-use Prim.Native.Nat.{ℕ, _+_, _-_, _^_, _≤_, _<_}
+use Prim.Native.Nat.{ℕ, _+_, _^_, _≤_, _<_}
 use mathlib.Core.Bool.{true, false}
 use mathlib.Core.Path.{_≡_, refl, _∙_, ap}
 use mathlib.Core.List.{List, [], _∷_, _++_}

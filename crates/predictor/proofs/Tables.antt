@@ -58,7 +58,7 @@ module _ (table bytes : List ℕ) where
     opened-on = rw (f, le-ltb (length bytes) (heldFrom + lookaheadOf table) room)
         (onto-checked _ bytes (openChecks (tableMeaning table)) unopened _)
 
-    pub judged-on : (a : ℕ) → fedOn table bytes a ≡ onto (lookaheadOf table) bytes (decision (tableMeaning table) (lookaheadOf table) bytes a)
+    pub judged-on : (a : ℕ) → let k = lookaheadOf table in fedOn table bytes a ≡ onto k bytes (decision (tableMeaning table) k bytes a)
     unfolding fedOn decision
     judged-on a = rw (f, le-ltb (length bytes) (heldFrom + lookaheadOf table) room)
         (onto-checked _ bytes (decisionChecks (tableMeaning table) (lookaheadOf table) bytes a) (decode bytes) _)

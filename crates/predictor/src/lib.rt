@@ -1,10 +1,10 @@
 // Walks letter by letter (document 01, Walks): a record of bytes that is opened, fed and finished on a prepared table.
-// A call is judged and decided first, by what it reads (crate deciding); only then is the record written, and a refused call writes nothing.
+// A call is decided first, by what it reads (crate deciding); only then is the record written, and a refused call writes nothing.
 ghost use mathlib.Core.Path.{_≡_};
 ghost use Prim.Native.Nat.{_+_, _≤_};
 ghost use lib.ListN.{length};
 ghost use Rattle.records.specs.Bytes.{heldFrom};
-ghost use Rattle.deciding.specs.Replies.{said, isRefusal};
+ghost use Rattle.deciding.specs.Replies.{said};
 ghost use Rattle.predictor.specs.Calls.{Opens, Feeds, Ends};
 ghost use Rattle.predictor.specs.inner.Parts.{lastAfter, fedInto, openedInto, Ready};
 use deciding::Answer;
@@ -18,19 +18,6 @@ pub enum Ended {
 }
 
 // WRITING A RECORD
-
-fn is_refusal(answer: Answer) -> bool
-    ensures { λ r. ⌜ r ≡ isRefusal (said answer) ⌝ }
-{
-    match answer {
-        Answer::Refused(_) => true,
-        Answer::Resolved {
-            position: _,
-            state: _,
-        } => false,
-        Answer::Nothing => false,
-    }
-}
 
 // The last resolved state once an answer is given.
 fn last_after(answer: Answer, last: u8) -> u8
@@ -48,7 +35,7 @@ fn apply(rec: &mut [u8], k: usize, letter: u32, answer: Answer)
     requires { ⌜ (heldFrom + k ≤ length (now rec)) × Ready k (now rec) letter (said answer) ⌝ }
     ensures { λ _. ⌜ now (rec .exit) ≡ fedInto k (now (rec .entry)) letter (said answer) ⌝ }
 {
-    if is_refusal(answer) {
+    if deciding::is_refusal(answer) {
         return;
     }
     let last = last_after(answer, rec[4]);
@@ -60,7 +47,7 @@ fn begin(rec: &mut [u8], k: usize, answer: Answer)
     requires { ⌜ heldFrom + k ≤ length (now rec) ⌝ }
     ensures { λ _. ⌜ now (rec .exit) ≡ openedInto k (now (rec .entry)) (said answer) ⌝ }
 {
-    if is_refusal(answer) {
+    if deciding::is_refusal(answer) {
         return;
     }
     let last = last_after(answer, 255);

@@ -23,8 +23,8 @@ use Rattle.plan.proofs.Asked.{refused-passing}
 use Rattle.prepare.proofs.Refusals.{square}
 
 -- a table that holds the form with the look-ahead is fit and means S
-pub sized-reads : {S : Semiautomaton} → Sized S → {k : ℕ} → Lookahead S k → (old : List ℕ) {table : List ℕ} → table ≡ laidOut (contents S k) old
-    → Reads (contents S k) table
+pub sized-reads : {S : Semiautomaton} → Sized S → {k : ℕ} → Lookahead S k → (old : List ℕ) {table : List ℕ}
+    → table ≡ laidOut (contents S k) old → Reads (contents S k) table
 sized-reads {S} z {k} a old e = form-reads _ (record { sized = z; lookahead = lookahead-bound S (z .within) k a }) e
 
 -- a look-ahead is small

@@ -14,7 +14,7 @@ use Rattle.semiautomata.specs.Predictability.{Lookahead}
 use Rattle.refusals.specs.Outcomes.{answered}
 use Rattle.plan.specs.Asked.{Asked, Passes, Proper}
 use Rattle.table.specs.Table.{setsFrom, contents}
-use Rattle.table.proofs.Form.{Reads}
+use Rattle.table.proofs.Form.{Reads, reads-contents}
 use Rattle.lookahead.specs.declared.Evidence.{Evidence}
 use Rattle.prepare.specs.declared.Prepared.the-variants as prepared
 use Rattle.claim.specs.declared.Checked.{Checked}
@@ -84,7 +84,7 @@ module _ (A : Asked) (P : Proper A) where
   theorems = record {
     same-k = λ k j old letters old′ letters′ a b. lookahead-unique (ready b .1) (ready a .1);
     not-both = λ k e old letters old′ letters′ a s. lookahead-predicts (ready a .1) (shown-never (never s .1));
-    table-reads = λ k old table old′ letters c. let r = table-read old old′ letters c in (r .fit, r .means, r .k-is);
+    table-reads = λ k old table old′ letters c. let r = table-read old old′ letters c in (r .fit, reads-contents r);
     counted-right = λ w a old letters g c. right a old letters (counts-on w a old letters g c) (inl c);
     prepared-right = λ w a old table old′ letters f g c.
         right a old′ letters (prepares-on w a old table old′ letters f g c) (inr (old, table, c));

@@ -10,7 +10,7 @@ use Rattle.semiautomata.specs.Semiautomaton.{Semiautomaton}
 use Rattle.semiautomata.specs.Predictability as predictability
 use Rattle.refusals.specs.Outcomes.{refused, answered}
 use Rattle.plan.specs.Asked.{Asked, Passes, Proper}
-use Rattle.table.specs.Table.{setsFrom, lookaheadOf, tableMeaning, unfit}
+use Rattle.table.specs.Table.{setsFrom, unfit, contents, contentsOf}
 use Rattle.lookahead.specs.declared.Evidence.{Evidence}
 use Rattle.prepare.specs.declared.Prepared.{Prepared}
 use Rattle.prepare.specs.declared.Prepared.the-variants.{Ready, Unpredictable}
@@ -30,19 +30,21 @@ pub record Right (S : Semiautomaton) (a : Prepared) : Type 0 where
 
 pub record Theorems (A : Asked) : Type 0 where
   -- any two calls agree: the same k, or 15 from both
-  pub same-k : (k j : ℕ) (old letters old′ letters′ : List ℕ) → EitherCall A (Ready k) old letters → EitherCall A (Ready j) old′ letters′ → j ≡ k
+  pub same-k : (k j : ℕ) (old letters old′ letters′ : List ℕ) → EitherCall A (Ready k) old letters
+      → EitherCall A (Ready j) old′ letters′ → j ≡ k
   pub not-both : (k : ℕ) (e : Evidence) (old letters old′ letters′ : List ℕ) → EitherCall A (Ready k) old letters
       → ¬ EitherCall A (Unpredictable e) old′ letters′
-  -- the table that preparing leaves is fit, means what was asked and has its look-ahead
+  -- the table that preparing leaves is fit, and holds what was asked with its look-ahead
   pub table-reads : (k : ℕ) (old table old′ letters : List ℕ) → Prepares A (Ready k) old table old′ letters
-      → (unfit table ≡ false) × (tableMeaning table ≡ A .means) × (lookaheadOf table ≡ k)
+      → (unfit table ≡ false) × (contentsOf table ≡ contents (A .means) k)
   -- where no check applies and lent buffers are long enough, it is refused as unpredictable exactly when no k exists; else k is answered
   pub counted-right : Passes A → (a : Prepared) (old letters : List ℕ) → A .means .n * A .means .n ≤ length old
       → CountsTo A a old letters → Right (A .means) a
   pub prepared-right : Passes A → (a : Prepared) (old table old′ letters : List ℕ) → setsFrom + A .means .n * A .means .m ≤ length old
       → A .means .n * A .means .n ≤ length old′ → Prepares A a old table old′ letters → Right (A .means) a
   -- whatever is lent, 15 and k are never said in vain
-  pub never-so : (e : Evidence) (old letters : List ℕ) → EitherCall A (Unpredictable e) old letters → predictability.Unpredictable (A .means)
+  pub never-so : (e : Evidence) (old letters : List ℕ) → EitherCall A (Unpredictable e) old letters
+      → predictability.Unpredictable (A .means)
   pub ready-so : (k : ℕ) (old letters : List ℕ) → EitherCall A (Ready k) old letters → predictability.Lookahead (A .means) k
   -- both bounds of k
   pub bound : (k : ℕ) (old letters : List ℕ) → EitherCall A (Ready k) old letters → k ≤ A .means .n * (A .means .n - 1) / 2

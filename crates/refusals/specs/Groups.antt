@@ -1,4 +1,5 @@
--- The refusals' numbers, 1 to 15, and who can cause which (document 01): the plan's author 1 to 7 and 15, the caller 8 to 10 and 14, the logger 11 to 13.
+-- Who can cause which refusal (document 01): the plan's author 1 to 7 and 15, the caller 8 to 10 and 14, the logger 11 to 13; and the
+-- last of their numbers.
 -- Assumes nothing.
 use Prim.Native.Nat.{ℕ}
 use mathlib.Core.Bool.{cond, _||_}

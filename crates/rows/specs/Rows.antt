@@ -18,7 +18,7 @@ pub record Put (firsts seconds : ℕ) (old new : List ℕ) : Type 0 where
   pub long : length new ≡ length old
   pub is : (s t : ℕ) → pair new s t ≡ (pair old s t || has firsts s && has seconds t)
 
--- In the rows below k: the pairs that one of the two has and not the other; where the struck ones are among the rows, the rows without them.
+-- In the rows below k, the pairs that one of the two has and not the other: the rows without the struck ones, where these are among them.
 pub record Without (old struck new : List ℕ) (k : ℕ) : Type 0 where
   pub is : (s t : ℕ) → s < k → pair new s t ≡ xor (pair old s t) (pair struck s t)
 

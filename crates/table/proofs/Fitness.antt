@@ -14,7 +14,7 @@ use lib.Seq.{getD-take, getD-drop}
 use borrow.Author.Tests.{ltb-false, leb-true, leb-false, eqb-true, not-false, le-ltb, le-leb, lt-leb, eq-eqb}
 use Rattle.bitset.specs.Sets.{any}
 use Rattle.bitset.specs.Numbers.{has, setOf}
-use Rattle.bitset.proofs.Tests.{and-out, not-so, decided, same-test}
+use Rattle.bitset.proofs.Tests.{and-out, not-so, decided, same-test, or-none}
 use Rattle.bitset.proofs.Below.{any-in, any-none, any-not}
 use Rattle.bitset.proofs.Bits.{has-high, fits, mask-setOf, and-mask-fits, fits-and-mask}
 use Rattle.semiautomata.specs.Semiautomaton.{Within}
@@ -62,22 +62,18 @@ fitting-of {table} r l k h b = record {
 
 -- THE TESTS
 
-or-out : (a b : Bool) → (a || b) ≡ false → (a ≡ false) × (b ≡ false)
-or-out true b e = absurd (true≢false e)
-or-out false b e = (refl, e)
-
 within-out : (a b x : ℕ) → not (leb a x && leb x b) ≡ false → (a ≤ x) × (x ≤ b)
 within-out a b x e = let (h, g) = and-out (leb a x) (leb x b) (not-false _ e) in (leb-true a x h, leb-true x b g)
 
 pub fitting : (table : List ℕ) → unfit table ≡ false → Fitting table
 unfolding unfit
 fitting table e =
-    let (t1, e) = or-out _ _ e in
-    let (t2, e) = or-out _ _ e in
-    let (t3, e) = or-out _ _ e in
-    let (t4, e) = or-out _ _ e in
-    let (t5, e) = or-out _ _ e in
-    let (t6, e) = or-out _ false e in
+    let (t1, e) = or-none _ _ e in
+    let (t2, e) = or-none _ _ e in
+    let (t3, e) = or-none _ _ e in
+    let (t4, e) = or-none _ _ e in
+    let (t5, e) = or-none _ _ e in
+    let (t6, e) = or-none _ false e in
     let (n1, n2) = within-out 1 64 (statesOf table) t2 in
     let (m1, m2) = within-out 1 32 (lettersOf table) t3 in
     fitting-of (record { some-state = n1; states = n2; some-letter = m1; letters = m2 }) (ltb-false _ _ t1)
@@ -120,9 +116,9 @@ fitting-inside {table} f = rw (
 
 pub inside : (table : List ℕ) → outside (statesOf table) (lettersOf table) ≡ false → Ranged table
 inside table e =
-    let (e, d) = or-out _ _ e in
-    let (e, c) = or-out _ _ e in
-    let (a, b) = or-out _ _ e in
+    let (e, d) = or-none _ _ e in
+    let (e, c) = or-none _ _ e in
+    let (a, b) = or-none _ _ e in
     record { some-state = ltb-false _ _ a; states = ltb-false _ _ b; some-letter = ltb-false _ _ c; letters = ltb-false _ _ d }
 
 -- no product wraps
@@ -203,7 +199,7 @@ tested {table} r l all mask u e = same-test _ _
 
     built : left ≡ false → Fitting table
     built q =
-        let (k, q) = or-out _ _ q in
+        let (k, q) = or-none _ _ q in
         let m = and-mask-fits (statesOf table) all (rw low at (eqb-true (bitAnd all mask) all (not-false _ q))) in
         let (a, b) = sides-below table _ l (statesOf table) all u m in
         fitting-of r l (ltb-false _ _ k) a b

@@ -119,5 +119,8 @@ pub record Reads (C : Contents) (table : List ℕ) : Type 0 where
   pub means : tableMeaning table ≡ C .means
   pub k-is : lookaheadOf table ≡ C .lookahead
 
+pub reads-contents : {C : Contents} {table : List ℕ} → Reads C table → contentsOf table ≡ C
+reads-contents r i = record { means = r .means i; lookahead = r .k-is i }
+
 pub form-reads : {C : Contents} {table : List ℕ} (rest : List ℕ) → Preparable C → table ≡ tableOf C ++ rest → Reads C table
 form-reads {C} rest P e = rw e (record { fit = fitting-fit (form-fitting C P rest); means = form-means C P rest; k-is = refl })

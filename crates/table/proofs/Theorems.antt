@@ -7,7 +7,7 @@ use mathlib.Core.Path.{_≡_}
 use Rattle.table.specs.Table.{unfit, contentsOf, Preparable}
 use Rattle.table.specs.Theorems.{Theorems}
 use Rattle.table.proofs.Fitness.{fitting}
-use Rattle.table.proofs.Form.{form-length, one-form, form-reads}
+use Rattle.table.proofs.Form.{form-length, one-form, form-reads, reads-contents}
 
 preparable : (table : List ℕ) → unfit table ≡ false → Preparable (contentsOf table)
 preparable table e =
@@ -20,6 +20,6 @@ pub theorems : (table : List ℕ) → Theorems table
 theorems table = record {
   preparable = preparable table;
   one-form = λ e. one-form (fitting table e);
-  form-read = λ C P rest e. let r = form-reads rest P e in (r .fit, (λ i. record { means = r .means i; lookahead = r .k-is i }));
+  form-read = λ C P rest e. let r = form-reads rest P e in (r .fit, reads-contents r);
   form-length = form-length;
 }

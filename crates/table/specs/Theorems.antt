@@ -13,6 +13,7 @@ pub record Theorems (table : List ℕ) : Type 0 where
   -- a fit table is the prepared form of what it holds, and what stands behind it: no two forms hold the same
   pub one-form : unfit table ≡ false → table ≡ laidOut (contentsOf table) table
   -- a table that begins with a form is fit, and holds what the form was made of
-  pub form-read : (C : Contents) → Preparable C → (rest : List ℕ) → table ≡ tableOf C ++ rest → (unfit table ≡ false) × (contentsOf table ≡ C)
+  pub form-read : (C : Contents) → Preparable C → (rest : List ℕ) → table ≡ tableOf C ++ rest
+      → (unfit table ≡ false) × (contentsOf table ≡ C)
   -- the form has 4 + n × m numbers
   pub form-length : (C : Contents) → length (tableOf C) ≡ setsFrom + C .means .n * C .means .m

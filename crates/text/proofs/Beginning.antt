@@ -26,6 +26,7 @@ use Rattle.lines.specs.Lines.{countsLine, lookaheadLine, refusedLine, Appended}
 use Rattle.text.specs.Report.{totalOf, planOf, inputLetters, noPlan, countsOf, AfterLookahead, AfterCounts, never, predicts, Reports}
 use Rattle.text.specs.Report.{no-plan, ill-formed, well-formed}
 use Rattle.text.specs.Calls.{tableSize, Laid, Lays, over, Leaves, read, ReportText, Roomy, Begins}
+use Rattle.bitset.proofs.Tests.{or-none}
 use Rattle.lines.proofs.Lines.{appended-on}
 
 -- a line before what follows
@@ -54,13 +55,9 @@ lays-last says {a = a} p is = record { text = a; put = p; follows = λ letters. 
 -- none of three numbers is too small
 pub three-long : (a b c d e f : ℕ) → (ltb a b || (ltb c d || ltb e f)) ≡ false → (b ≤ a) × (d ≤ c) × (f ≤ e)
 three-long a b c d e f h =
-    let (x, h) = none (ltb a b) (ltb c d || ltb e f) h in
-    let (y, z) = none (ltb c d) (ltb e f) h in
+    let (x, h) = or-none (ltb a b) (ltb c d || ltb e f) h in
+    let (y, z) = or-none (ltb c d) (ltb e f) h in
     (ltb-false a b x, ltb-false c d y, ltb-false e f z)
-  where
-    none : (a b : Bool) → (a || b) ≡ false → (a ≡ false) × (b ≡ false)
-    none true b e = absurd (true≢false e)
-    none false b e = (refl, e)
 
 -- LINE 2
 

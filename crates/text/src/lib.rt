@@ -8,9 +8,8 @@ ghost use Rattle.semiautomata.specs.Predictability.{Lookahead};
 ghost use Rattle.plan.specs.Bytes.{meaning, WellFormed};
 ghost use Rattle.table.specs.Table.{lookaheadOf, tableMeaning, unfit};
 ghost use Rattle.endian.specs.Numbers.{numberAt};
-ghost use Rattle.deciding.specs.Replies.{said};
+ghost use Rattle.deciding.specs.Replies.{said, isRefusal};
 ghost use Rattle.predictor.specs.Calls.{openedOn};
-ghost use Rattle.deciding.specs.Replies.{isRefusal};
 ghost use Rattle.lines.specs.Lines.{Appended};
 ghost use Rattle.text.specs.Report.{totalOf, noPlan, replyText, openLines, AfterLookahead, AfterCounts};
 ghost use Rattle.text.specs.Calls.{mostSets, tableSize, recordSize, letterWidth, openWidth, over, printedOf};
@@ -38,19 +37,6 @@ fn reply(out: &mut [u8], at: usize, answer: Answer) -> usize
         Answer::Refused(number) => lines::refused(out, at, number),
         Answer::Resolved { position, state } => lines::resolution(out, at, position, state),
         Answer::Nothing => at,
-    }
-}
-
-fn is_refusal(answer: Answer) -> bool
-    ensures { λ r. ⌜ r ≡ isRefusal (said answer) ⌝ }
-{
-    match answer {
-        Answer::Refused(_) => true,
-        Answer::Resolved {
-            position: _,
-            state: _,
-        } => false,
-        Answer::Nothing => false,
     }
 }
 
@@ -93,7 +79,7 @@ fn opened(table: &[u64], rec: &mut [u8], out: &mut [u8], at: usize) -> Printed
 {
     let answer = predictor::open(table, rec);
     let end = reply(out, at, answer);
-    if is_refusal(answer) {
+    if deciding::is_refusal(answer) {
         Printed::Ended(end)
     } else {
         Printed::Going(end)
@@ -158,7 +144,7 @@ pub fn feed(table: &[u64], rec: &mut [u8], letters: &[u8], out: &mut [u8]) -> Pr
     for i in 0..letters.len() {
         let answer = predictor::feed(table, rec, letters[i] as u32);
         at = reply(out, at, answer);
-        if is_refusal(answer) {
+        if deciding::is_refusal(answer) {
             return Printed::Ended(at);
         }
     }
