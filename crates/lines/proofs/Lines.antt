@@ -1,58 +1,16 @@
--- Bytes written one after the other, the digits that are written of a number, and how long they are.
+-- The digits that are written of a number, and how long they are.
 -- Assumes nothing.
 use Prim.Native.Nat.{ℕ, zero, suc, _+_, _-_, _*_, _/_, _%_, _^_, _≤_, _<_}
 use mathlib.Core.Bool.{Bool, true, false, cond}
-use mathlib.Core.Path.{_≡_, sym, _∙_, ap}
-use mathlib.Core.List.{List, [], _++_, append-assoc, append-nil}
+use mathlib.Core.Path.{_≡_}
+use mathlib.Core.List.{List, []}
 use native.Mathlib.Nat.{one-le-pow, pow-succ'}
 use native.Mathlib.Omega.{arith}
 use lib.Dec.{ltb}
-use lib.ListN.{length, take, drop, take-append-drop, length-append, length-take, length-drop}
-use lib.Seq.{take-at, drop-at, drop-drop}
+use lib.ListN.{length, length-append}
 use borrow.Author.Tests.{lt-ltb, le-ltb}
 use Rattle.io.specs.Digits as io
-use Rattle.lines.specs.Lines.{digits, decimal, listed, Room, Appended}
-
--- ONE AFTER THE OTHER
-
-module _ {old : List ℕ} {at : ℕ} {a : List ℕ} {r : ℕ} {mid : List ℕ} (p : Appended old at a r mid) where
-  pub appended-long : length mid ≡ length old
-  appended-long = rw (p .is) (simp (length-append, length-take, length-drop) (omega (arith, p .room .fits)))
-
-  head-long : length (take at old ++ a) ≡ at + length a
-  head-long = simp (length-append, length-take) (omega (arith, p .room .fits))
-
-  pub appended-on : {b : List ℕ} {s : ℕ} {out : List ℕ} → Appended mid r b s out → Appended old at (a ++ b) s out
-  appended-on {b} {s} {out} q =
-      let e : at + length (a ++ b) ≡ at + length a + length b = rw length-append (omega arith) in
-      record {
-        room = record { fits = omega (arith, p .end, q .room .fits, appended-long) };
-        end = omega (arith, p .end, q .end);
-        is =
-            q .is
-            ∙ rw (
-              p .is,
-              p .end,
-              e,
-              take-at (take at old ++ a) (drop (at + length a) old) (at + length a) head-long,
-              ← append-assoc
-                  (take at old) a b,
-            )
-            (ap (λ (l : List ℕ). ((take at old ++ a) ++ b) ++ l)
-            (sym (drop-drop (length b) (at + length a) ((take at old ++ a) ++ drop (at + length a) old))
-            ∙ rw (drop-at (take at old ++ a) (drop (at + length a) old) (at + length a) head-long)
-            (drop-drop (length b) (at + length a) old)));
-      }
-
-  -- room for more behind what is written
-  pub room-on : {b : List ℕ} → Room old at (a ++ b) → Room mid r b
-  room-on {b} h = record { fits = omega (arith, p .end, appended-long, length-append a b) }
-
--- .. and for what comes first
-pub room-left : {old : List ℕ} {at : ℕ} (a b : List ℕ) → Room old at (a ++ b) → Room old at a
-room-left a b h = record { fits = omega (arith, length-append a b) }
-
--- THE DIGITS OF A NUMBER
+use Rattle.lines.specs.Lines.{digits, decimal}
 
 cond-length : (b : Bool) (l : List ℕ) {n : ℕ} → length l ≤ n → length (cond b [] l) ≤ n
 cond-length true l h = omega arith
@@ -95,24 +53,3 @@ digits-length (suc c) (suc d) x h =
 pub decimal-length : (c x : ℕ) → x < 10 ^ suc c → length (decimal x) ≤ suc c
 unfolding decimal
 decimal-length c x h = digits-length c x x h
-
--- THE STATES OF A SET
-
-pub appended-none : {old : List ℕ} (at : ℕ) → at ≤ length old → Appended old at [] at old
-appended-none {old} at h = record {
-  room = record { fits = omega arith };
-  end = omega arith;
-  is = let e : at + 0 ≡ at = omega arith in rw (e, append-nil, take-append-drop);
-}
-
-listed-le : (i d : ℕ) (p : ℕ → Bool) → length (listed i p) ≤ length (listed (d + i) p)
-unfolding listed
-listed-le i zero p = let e : zero + i ≡ i = omega arith in rw e (omega arith)
-listed-le i (suc d) p = let e : suc d + i ≡ suc (d + i) = omega arith in rw (e, length-append) (omega (arith, listed-le i d p))
-
-pub room-listed : {old : List ℕ} {at : ℕ} (n : ℕ) (p : ℕ → Bool) → Room old at (listed n p) → (i : ℕ) → i < n
-    → Room old at (listed (suc i) p)
-room-listed n p h i g =
-    let e : n - suc i + suc i ≡ n = omega arith in
-    let l : length (listed (suc i) p) ≤ length (listed n p) = rw e at (listed-le (suc i) (n - suc i) p) in
-    record { fits = omega (arith, h .fits) }

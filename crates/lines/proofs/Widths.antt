@@ -9,6 +9,7 @@ use Rattle.bitset.specs.Numbers.{has}
 use Rattle.refusals.specs.declared.Group.{Group}
 use Rattle.refusals.specs.declared.Group.the-variants.{Author, Caller, Logger, Nobody}
 use Rattle.refusals.specs.Groups.{groupOf}
+use Rattle.slices.specs.Appending.{each}
 use Rattle.lines.specs.Lines.{stakes, codes, starts, lines, lookAhead, atWord, stake, openWord, space, refusedWord, groupWord, field}
 use Rattle.lines.specs.Lines.{countsLine, lookaheadLine, refusedLine, resolutionLine, listed, openLine}
 use Rattle.lines.proofs.Lines.{decimal-length}
@@ -53,7 +54,7 @@ member-width true s h = omega (arith, field-width space 1 s (omega arith))
 member-width false s h = omega arith
 
 listed-width : (n : ℕ) (p : ℕ → Bool) → n ≤ 100 → length (listed n p) ≤ 3 * n
-unfolding listed
+unfolding each
 listed-width zero p h = omega arith
 listed-width (suc n) p h = rw length-append (omega (arith, listed-width n p (omega arith), member-width (p n) n (omega arith)))
 

@@ -6,7 +6,7 @@ use mathlib.Core.Path.{_≡_}
 use mathlib.Core.List.{List, [], _∷_, _++_}
 use lib.Dec.{ltb}
 use lib.ListN.{length}
-use Rattle.slices.specs.Copying.{pasted}
+use Rattle.slices.specs.Appending.{each}
 use Rattle.bitset.specs.Numbers.{has}
 use Rattle.refusals.specs.declared.Group.{Group}
 use Rattle.refusals.specs.declared.Group.the-variants.{Author, Caller, Logger, Nobody}
@@ -92,20 +92,9 @@ unfoldable pub resolutionLine : ℕ → ℕ → List ℕ
 resolutionLine position state = field atWord position ++ field stake state ++ lineFeed
 
 -- The states below n of a set, ascending, a space before each.
-unfoldable pub listed : ℕ → (ℕ → Bool) → List ℕ
-listed zero p = []
-listed (suc n) p = listed n p ++ cond (p n) (field space n) []
+abbrev pub listed : ℕ → (ℕ → Bool) → List ℕ
+listed n p = each n (λ s. cond (p s) (field space s) [])
 
 -- `open 3 stakes 1 2`: a position that is not resolved, with the set of its possible states as a 64-bit number
 unfoldable pub openLine : ℕ → ℕ → List ℕ
 openLine position set = field openWord position ++ stakesAre ++ listed 64 (has set) ++ lineFeed
-
--- There is room for bytes from a place on.
-pub record Room (old : List ℕ) (at : ℕ) (bytes : List ℕ) : Type 0 where
-  pub fits : at + length bytes ≤ length old
-
--- Bytes are written so, and r is the place behind them.
-pub record Appended (old : List ℕ) (at : ℕ) (bytes : List ℕ) (r : ℕ) (out : List ℕ) : Type 0 where
-  pub room : Room old at bytes
-  pub end : r ≡ at + length bytes
-  pub is : out ≡ pasted old at bytes

@@ -2,18 +2,10 @@
 ghost use mathlib.Core.Bool.{cond};
 ghost use mathlib.Core.List.{[]};
 ghost use Rattle.bitset.specs.Numbers.{has};
+ghost use Rattle.slices.specs.Appending.{Room, Appended};
 ghost use Rattle.lines.specs.Lines.{decimal, field as Lines·field, space, groupWord, countsLine, lookaheadLine, refusedLine};
-ghost use Rattle.lines.specs.Lines.{resolutionLine, listed, openLine, Room, Appended};
+ghost use Rattle.lines.specs.Lines.{resolutionLine, listed, openLine};
 use refusals::Group;
-
-// Bytes, as they are.
-fn append(out: &mut [u8], at: usize, bytes: &[u8]) -> usize
-    requires { ⌜ Room (now out) at (now bytes) ⌝ }
-    ensures { λ r. ⌜ Appended (now (out .entry)) at (now (bytes .entry)) r (now (out .exit)) ⌝ }
-{
-    slices::copy_8(&mut out[at..], bytes);
-    at + bytes.len()
-}
 
 fn number(out: &mut [u8], at: usize, x: u64) -> usize
     requires { ⌜ Room (now out) at (decimal x) ⌝ }
@@ -21,7 +13,7 @@ fn number(out: &mut [u8], at: usize, x: u64) -> usize
 {
     let mut digits = [0u8; 20];
     let count = io::decimal(x, &mut digits);
-    append(out, at, &digits[..count])
+    slices::append(out, at, &digits[..count])
 }
 
 // A word and its number.
@@ -29,7 +21,7 @@ fn field(out: &mut [u8], at: usize, word: &[u8], x: u64) -> usize
     requires { ⌜ Room (now out) at (Lines·field (now word) x) ⌝ }
     ensures { λ r. ⌜ Appended (now (out .entry)) at (Lines·field (now (word .entry)) x) r (now (out .exit)) ⌝ }
 {
-    let end = append(out, at, word);
+    let end = slices::append(out, at, word);
     number(out, end, x)
 }
 
@@ -41,7 +33,7 @@ pub fn counts(out: &mut [u8], at: usize, n: u16, m: u16, p: u16, e: u16) -> usiz
     let letters = field(out, states, b" codes ", m as u64);
     let starts = field(out, letters, b" starts ", p as u64);
     let lines = field(out, starts, b" lines ", e as u64);
-    append(out, lines, b"\n")
+    slices::append(out, lines, b"\n")
 }
 
 pub fn lookahead(out: &mut [u8], at: usize, k: usize) -> usize
@@ -49,7 +41,7 @@ pub fn lookahead(out: &mut [u8], at: usize, k: usize) -> usize
     ensures { λ r. ⌜ Appended (now (out .entry)) at (lookaheadLine k) r (now (out .exit)) ⌝ }
 {
     let end = field(out, at, b"look-ahead ", k as u64);
-    append(out, end, b"\n")
+    slices::append(out, end, b"\n")
 }
 
 fn group(out: &mut [u8], at: usize, who: Group) -> usize
@@ -57,10 +49,10 @@ fn group(out: &mut [u8], at: usize, who: Group) -> usize
     ensures { λ r. ⌜ Appended (now (out .entry)) at (groupWord who) r (now (out .exit)) ⌝ }
 {
     match who {
-        Group::Author => append(out, at, b" author"),
-        Group::Caller => append(out, at, b" caller"),
-        Group::Logger => append(out, at, b" logger"),
-        Group::Nobody => append(out, at, b""),
+        Group::Author => slices::append(out, at, b" author"),
+        Group::Caller => slices::append(out, at, b" caller"),
+        Group::Logger => slices::append(out, at, b" logger"),
+        Group::Nobody => slices::append(out, at, b""),
     }
 }
 
@@ -70,7 +62,7 @@ pub fn refused(out: &mut [u8], at: usize, number: u8) -> usize
 {
     let end = field(out, at, b"refused ", number as u64);
     let who = group(out, end, refusals::group_of(number));
-    append(out, who, b"\n")
+    slices::append(out, who, b"\n")
 }
 
 pub fn resolution(out: &mut [u8], at: usize, position: u32, state: u8) -> usize
@@ -79,7 +71,7 @@ pub fn resolution(out: &mut [u8], at: usize, position: u32, state: u8) -> usize
 {
     let end = field(out, at, b"at ", position as u64);
     let state_end = field(out, end, b" stake ", state as u64);
-    append(out, state_end, b"\n")
+    slices::append(out, state_end, b"\n")
 }
 
 // A state, if the set has it, behind a space.
@@ -110,7 +102,7 @@ pub fn open_line(out: &mut [u8], at: usize, position: usize, set: u64) -> usize
     ensures { λ r. ⌜ Appended (now (out .entry)) at (openLine position set) r (now (out .exit)) ⌝ }
 {
     let end = field(out, at, b"open ", position as u64);
-    let word = append(out, end, b" stakes");
+    let word = slices::append(out, end, b" stakes");
     let states = members(out, word, set);
-    append(out, states, b"\n")
+    slices::append(out, states, b"\n")
 }

@@ -1,2 +1,3 @@
 pub mod Copying
 pub mod Parts
+pub mod Appending

@@ -13,12 +13,12 @@ use borrow.Author.Tests.{le-ltb}
 use Rattle.bitset.proofs.Tests.{decided, or-right}
 use Rattle.steps.specs.declared.Stage.{Stage}
 use Rattle.steps.specs.declared.Stage.the-variants.{Plan, Letters, Over}
-use Rattle.lines.specs.Lines.{Appended}
+use Rattle.slices.specs.Appending.{Appended}
 use Rattle.text.specs.Report.{totalOf, inputLetters, noPlan, walkText, Reports}
 use Rattle.text.specs.Calls.{walkOn, LeavesOf, unread, read, Told}
 use Rattle.steps.specs.Steps.{readFrom, readUpto, wanted, Runs, over, on}
 use Rattle.steps.specs.Steps.{Steps, reads-on, begins, begins-last, feeds, feeds-last, finishes, stays}
-use Rattle.lines.proofs.Lines.{appended-on}
+use Rattle.slices.proofs.Appending.{appended-on}
 use Rattle.text.proofs.Beginning.{whole, total-on}
 
 -- what a call wrote is what it answered the length of

@@ -25,13 +25,14 @@ use Rattle.samples.specs.Plans.{bytes, A as sample-A, B as sample-B}
 use Rattle.samples.proofs.Plans.{samples-hold}
 use Rattle.text.specs.declared.Printed.the-variants.{Going, Ended}
 use Rattle.steps.specs.declared.Stage.the-variants.{Plan, Letters}
-use Rattle.lines.specs.Lines.{countsLine, lookaheadLine, refusedLine, resolutionLine, Appended}
+use Rattle.slices.specs.Appending.{Appended}
+use Rattle.lines.specs.Lines.{countsLine, lookaheadLine, refusedLine, resolutionLine}
 use Rattle.slices.specs.Copying.{pasted}
 use Rattle.text.specs.Report.{noPlan}
 use Rattle.text.specs.Calls.{openOn, Begins, FeedsPart, unpredictable, opens}
 use Rattle.steps.specs.Steps.{Runs, over, on, reads-on, begins, begins-last, feeds, finishes}
 use Rattle.steps.specs.Theorems.{zeroTable, zeroRecord, sampleInput, refusedSample}
-use Rattle.lines.proofs.Lines.{appended-long}
+use Rattle.slices.proofs.Appending.{appended-long}
 use Rattle.lines.proofs.Widths.{counts-width, lookahead-width, refused-width, resolution-width}
 use Rattle.text.proofs.Agreeing.{opened-goes}
 use Rattle.text.proofs.Beginning.{counted, never-counted, begun-well}

@@ -14,10 +14,10 @@ use Rattle.bitset.proofs.Tests.{and-out, decided}
 use Rattle.slices.proofs.Parts.{part-back, part-whole}
 use Rattle.steps.specs.declared.Stage.{Stage}
 use Rattle.steps.specs.declared.Stage.the-variants.{Letters, Over}
-use Rattle.lines.specs.Lines.{Appended}
+use Rattle.slices.specs.Appending.{Appended}
 use Rattle.text.specs.Calls.{tableSize, recordSize, beginWidth}
 use Rattle.steps.specs.Steps.{Readable, Steps, reads-on, begins, begins-last, feeds, feeds-last, finishes, stays}
-use Rattle.lines.proofs.Lines.{appended-long}
+use Rattle.slices.proofs.Appending.{appended-long}
 
 pub part-long : (at : ℕ) (old : List ℕ) → length (take (length old - at) (drop at old)) ≡ length old - at
 part-long at old = rw (part-whole at (length old - at) old (omega arith)) (length-drop at old)

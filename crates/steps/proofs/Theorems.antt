@@ -13,7 +13,8 @@ use Rattle.streaming.specs.Demand3.{followed}
 use Rattle.streaming.specs.Streaming.{unresolved}
 use Rattle.semiautomata.proofs.Shares.{lookahead-unique, lookahead-predicts}
 use Rattle.samples.proofs.Plans.{samples-hold}
-use Rattle.lines.specs.Lines.{digits, decimal, field, countsLine, lookaheadLine, refusedLine, resolutionLine, listed, openLine}
+use Rattle.slices.specs.Appending.{each}
+use Rattle.lines.specs.Lines.{digits, decimal, field, countsLine, lookaheadLine, refusedLine, resolutionLine, openLine}
 use Rattle.steps.specs.declared.Stage.the-variants.{Plan}
 use Rattle.text.specs.Report.{noPlan, openLines, openText, walkText, plainText, AfterLookahead, no-start, walked}
 use Rattle.text.specs.Report.{AfterCounts, never, predicts, Reports, no-plan, ill-formed, well-formed}
@@ -52,7 +53,7 @@ one-report (well-formed _ _ a) (well-formed _ _ b) = rw (one-counted a b)
 -- THE SAMPLE
 
 sample-printed : Reports sampleInput sampleText
-unfolding noPlan digits decimal field countsLine lookaheadLine resolutionLine listed openLine openLines openText walkText plainText limit stateAt plainReply plainFeed followed unresolved possible walkable spells step any least has setOf
+unfolding noPlan digits decimal field countsLine lookaheadLine resolutionLine each openLine openLines openText walkText plainText limit stateAt plainReply plainFeed followed unresolved possible walkable spells step any least has setOf
 sample-printed = let a = samples-hold .0 in well-formed refl (a .well-formed) (predicts 1 (a .ahead) (walked 0 refl))
 
 sample-run : Runs (Plan 0 16) [] zeroTable zeroRecord sampleInput sampleText

@@ -8,7 +8,7 @@ use lib.ListN.{length, take}
 use Rattle.text.specs.declared.Printed.the-variants.{Going, Ended}
 use Rattle.steps.specs.declared.Stage.{Stage}
 use Rattle.steps.specs.declared.Stage.the-variants.{Plan, Letters, Over}
-use Rattle.lines.specs.Lines.{Appended}
+use Rattle.slices.specs.Appending.{Appended}
 use Rattle.text.specs.Report.{totalOf}
 use Rattle.text.specs.Calls.{openOn, FeedsPart, Begins}
 

@@ -2,7 +2,7 @@
 ghost use mathlib.Core.Path.{_≡_};
 ghost use Prim.Native.Nat.{_+_, _*_, _≤_, _<_};
 ghost use lib.ListN.{length};
-ghost use Rattle.lines.specs.Lines.{Appended};
+ghost use Rattle.slices.specs.Appending.{Appended};
 ghost use Rattle.text.specs.Calls.{mostSets, openWidth, openOn};
 ghost use Rattle.steps.specs.declared.Stage.the-variants.{Plan, Letters};
 ghost use Rattle.steps.specs.Steps.{readFrom, readUpto, wanted as Steps·wanted, Readable, Steps};

@@ -28,7 +28,7 @@ use Rattle.predictor.specs.Calls.{written, openedOn, fedOn, ended}
 use Rattle.deciding.specs.Replies.{isRefusal}
 use Rattle.predictor.proofs.Ending.{end-0}
 use Rattle.predictor.proofs.Following.{Holds, Small, encode-holds, written-holds, feed-keeps, opened-is, fed-is, follows-small}
-use Rattle.lines.specs.Lines.{Appended}
+use Rattle.slices.specs.Appending.{Appended}
 use Rattle.text.specs.Report.{replyText, walkText, plainOpen, plainText, AfterLookahead, no-start, walked}
 use Rattle.text.specs.Calls.{mostSets, recordSize, openOn, walkOn, Laid}
 

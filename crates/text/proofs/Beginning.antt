@@ -22,12 +22,13 @@ use Rattle.plan.proofs.Readings.{reading-refused, reading-well}
 use Rattle.prepare.proofs.Refusals.{square, prepare-clear}
 use Rattle.text.specs.declared.Printed.{Printed}
 use Rattle.text.specs.declared.Printed.the-variants.{Going, Ended, Short}
-use Rattle.lines.specs.Lines.{countsLine, lookaheadLine, refusedLine, Appended}
+use Rattle.slices.specs.Appending.{Appended}
+use Rattle.lines.specs.Lines.{countsLine, lookaheadLine, refusedLine}
 use Rattle.text.specs.Report.{totalOf, planOf, inputLetters, noPlan, countsOf, AfterLookahead, AfterCounts, never, predicts, Reports}
 use Rattle.text.specs.Report.{no-plan, ill-formed, well-formed}
 use Rattle.text.specs.Calls.{tableSize, Laid, Lays, over, Leaves, read, ReportText, Roomy, Begins}
 use Rattle.bitset.proofs.Tests.{or-none}
-use Rattle.lines.proofs.Lines.{appended-on}
+use Rattle.slices.proofs.Appending.{appended-on}
 
 -- a line before what follows
 module _ (says says′ : List ℕ → List ℕ → Type 0) {old : List ℕ} {at : ℕ} {a : List ℕ} {r : ℕ} {mid : List ℕ} (p : Appended old at a r mid)

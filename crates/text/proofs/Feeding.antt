@@ -11,10 +11,10 @@ use lib.Seq.{drop-cons}
 use Rattle.streaming.specs.Calls.{Reply}
 use Rattle.predictor.specs.Calls.{fedOn}
 use Rattle.deciding.specs.Replies.{isRefusal}
-use Rattle.lines.specs.Lines.{Appended}
+use Rattle.slices.specs.Appending.{Appended}
 use Rattle.text.specs.Report.{replyText, walkText}
 use Rattle.text.specs.Calls.{letterWidth, openOn, walkOn, Laid, fedUpto, FedText}
-use Rattle.lines.proofs.Lines.{appended-none, appended-on}
+use Rattle.slices.proofs.Appending.{appended-none, appended-on}
 
 -- the first i letters are fed, and the record is `left`
 pub record Upto (table bytes letters old : List ℕ) (i : ℕ) (left out : List ℕ) (at : ℕ) : Type 0 where

@@ -10,10 +10,11 @@ use lib.Seq.{take-suc, take-all, take-at, length-take-le}
 use borrow.Author.Tests.{ne-eqb}
 use Rattle.records.specs.Bytes.{decode}
 use Rattle.predictor.specs.Calls.{endRefusal, ended}
-use Rattle.lines.specs.Lines.{refusedLine, openLine, Room, Appended}
+use Rattle.slices.specs.Appending.{Room, Appended}
+use Rattle.lines.specs.Lines.{refusedLine, openLine}
 use Rattle.text.specs.Report.{openLines, openText}
 use Rattle.text.specs.Calls.{mostSets, openWidth, openOn}
-use Rattle.lines.proofs.Lines.{appended-none, appended-on, appended-long}
+use Rattle.slices.proofs.Appending.{appended-none, appended-on, appended-long}
 use Rattle.lines.proofs.Widths.{open-width}
 
 open-snoc : (first : ℕ) (sets : List ℕ) (set : ℕ)

@@ -10,7 +10,7 @@ ghost use Rattle.table.specs.Table.{lookaheadOf, tableMeaning, unfit};
 ghost use Rattle.endian.specs.Numbers.{numberAt};
 ghost use Rattle.deciding.specs.Replies.{said, isRefusal};
 ghost use Rattle.predictor.specs.Calls.{openedOn};
-ghost use Rattle.lines.specs.Lines.{Appended};
+ghost use Rattle.slices.specs.Appending.{Appended};
 ghost use Rattle.text.specs.Report.{totalOf, noPlan, replyText, openLines, AfterLookahead, AfterCounts};
 ghost use Rattle.text.specs.Calls.{mostSets, tableSize, recordSize, letterWidth, openWidth, over, printedOf};
 ghost use Rattle.text.specs.Calls.{FeedsPart, Finishes, Lays, Leaves, Begins};

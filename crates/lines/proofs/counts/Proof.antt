@@ -2,8 +2,9 @@
 -- Assumes nothing.
 use mathlib.Core.List.{List, _++_}
 use Prim.Native.Nat.{ℕ}
-use Rattle.lines.specs.Lines.{stakes, codes, starts, lines, lineFeed, field, countsLine, Room, Appended}
-use Rattle.lines.proofs.Lines.{room-left, room-on, appended-on}
+use Rattle.slices.specs.Appending.{Room, Appended}
+use Rattle.lines.specs.Lines.{stakes, codes, starts, lines, lineFeed, field, countsLine}
+use Rattle.slices.proofs.Appending.{room-left, room-on, appended-on}
 use borrow.Author.Needs.{needs}
 use Rattle.lines.proofs.counts.Statement.{statement}
 use Rattle.lines.proofs.counts.Tie as tie

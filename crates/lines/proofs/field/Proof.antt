@@ -1,7 +1,7 @@
 -- `field` meets its contract.
 -- Assumes nothing.
 use Rattle.lines.specs.Lines.{decimal, field}
-use Rattle.lines.proofs.Lines.{room-left, room-on, appended-on}
+use Rattle.slices.proofs.Appending.{room-left, room-on, appended-on}
 use borrow.Author.Needs.{needs}
 use Rattle.lines.proofs.field.Statement.{statement}
 use Rattle.lines.proofs.field.Tie as tie

@@ -1,7 +1,7 @@
 -- `lookahead` meets its contract.
 -- Assumes nothing.
 use Rattle.lines.specs.Lines.{lookAhead, lineFeed, field, lookaheadLine}
-use Rattle.lines.proofs.Lines.{room-left, room-on, appended-on}
+use Rattle.slices.proofs.Appending.{room-left, room-on, appended-on}
 use borrow.Author.Needs.{needs}
 use Rattle.lines.proofs.lookahead.Statement.{statement}
 use Rattle.lines.proofs.lookahead.Tie as tie

@@ -2,7 +2,7 @@
 -- Assumes nothing.
 use mathlib.Core.Path.{sym, _∙_}
 use native.Mathlib.Omega.{arith}
-use Rattle.lines.proofs.Lines.{appended-none}
+use Rattle.slices.proofs.Appending.{appended-none}
 use borrow.Author.Needs.{needs}
 use Rattle.lines.proofs.member.Statement.{statement}
 use Rattle.lines.proofs.member.Tie as tie

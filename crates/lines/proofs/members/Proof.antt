@@ -5,8 +5,9 @@ use mathlib.Core.Path.{_≡_}
 use native.Mathlib.Numerals.{add-one}
 use native.Mathlib.Omega.{arith}
 use Rattle.bitset.specs.Numbers.{has}
-use Rattle.lines.specs.Lines.{listed, Appended}
-use Rattle.lines.proofs.Lines.{appended-none, appended-on, appended-long, room-on, room-listed}
+use Rattle.slices.specs.Appending.{each, Appended}
+use Rattle.lines.specs.Lines.{listed}
+use Rattle.slices.proofs.Appending.{appended-none, appended-on, appended-long, room-on, room-each}
 use Rattle.lines.proofs.members.Statement.{statement}
 use Rattle.lines.proofs.members.Tie as tie
 
@@ -17,23 +18,23 @@ abbrev μ-loop : tie.MeasureT-loop
 μ-loop out₀ at set end₀ s₀ out end s = 64 - s
 
 loop-holds : tie.Need-loop-holds Inv-loop μ-loop
-unfolding listed
+unfolding each
 loop-holds c = let s = c .before in (omega arith, appended-none (s .args .at) (omega (arith, s .pre .fits)))
 
 member-requires : tie.Need-member-requires Inv-loop μ-loop
-unfolding listed
+unfolding each
 member-requires c κs =
     let start = c .before .before .before .before in
     let i = c .before .before .loop in
-    room-on (i .inv .1) (room-listed 64 (has (start .args .set)) (start .pre)
+    room-on (i .inv .1) (room-each 64 _ (start .pre)
     (i .s) (omega arith))
 
 loop-again : tie.Need-loop-again Inv-loop μ-loop
-unfolding listed
+unfolding each
 loop-again c =
     let at-loop = c .before .before .before .before .before in (
       omega arith,
-      rw (add-one, listed)
+      rw (add-one, each)
           (appended-on (at-loop .loop .inv .1) (c .before .before .member .ensures)),
     )
 

@@ -3,8 +3,9 @@
 use Prim.Native.Nat.{ℕ}
 use mathlib.Core.List.{List, _++_}
 use Rattle.bitset.specs.Numbers.{has}
-use Rattle.lines.specs.Lines.{openWord, stakesAre, lineFeed, field, listed, openLine, Room, Appended}
-use Rattle.lines.proofs.Lines.{room-left, room-on, appended-on}
+use Rattle.slices.specs.Appending.{Room, Appended}
+use Rattle.lines.specs.Lines.{openWord, stakesAre, lineFeed, field, listed, openLine}
+use Rattle.slices.proofs.Appending.{room-left, room-on, appended-on}
 use borrow.Author.Needs.{needs}
 use Rattle.lines.proofs.open_line.Statement.{statement}
 use Rattle.lines.proofs.open_line.Tie as tie

@@ -2,8 +2,9 @@
 -- Assumes nothing.
 use mathlib.Core.List.{_++_}
 use Rattle.refusals.specs.Groups.{groupOf}
-use Rattle.lines.specs.Lines.{refusedWord, groupWord, lineFeed, field, refusedLine, Room, Appended}
-use Rattle.lines.proofs.Lines.{room-left, room-on, appended-on}
+use Rattle.slices.specs.Appending.{Room, Appended}
+use Rattle.lines.specs.Lines.{refusedWord, groupWord, lineFeed, field, refusedLine}
+use Rattle.slices.proofs.Appending.{room-left, room-on, appended-on}
 use borrow.Author.Needs.{needs}
 use Rattle.lines.proofs.refused.Statement.{statement}
 use Rattle.lines.proofs.refused.Tie as tie

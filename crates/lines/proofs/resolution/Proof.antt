@@ -1,8 +1,9 @@
 -- `resolution` meets its contract.
 -- Assumes nothing.
 use mathlib.Core.List.{_++_}
-use Rattle.lines.specs.Lines.{atWord, stake, lineFeed, field, resolutionLine, Room}
-use Rattle.lines.proofs.Lines.{room-left, room-on, appended-on}
+use Rattle.slices.specs.Appending.{Room}
+use Rattle.lines.specs.Lines.{atWord, stake, lineFeed, field, resolutionLine}
+use Rattle.slices.proofs.Appending.{room-left, room-on, appended-on}
 use borrow.Author.Needs.{needs}
 use Rattle.lines.proofs.resolution.Statement.{statement}
 use Rattle.lines.proofs.resolution.Tie as tie

@@ -12,7 +12,7 @@ use Rattle.plan.specs.Bytes.{outcomeOfReading, reading}
 use Rattle.lines.specs.Lines.{countsLine}
 use Rattle.text.specs.Report.{noPlan, planOf}
 use Rattle.text.specs.Calls.{tableSize, recordSize, beginWidth, unread}
-use Rattle.lines.proofs.Lines.{appended-long}
+use Rattle.slices.proofs.Appending.{appended-long}
 use Rattle.lines.proofs.Widths.{counts-width, refused-width}
 use Rattle.text.proofs.Beginning.{three-long, whole, read-well, begun-no-plan, begun-ill, begun-well}
 use borrow.Author.Needs.{needs}

@@ -4,7 +4,7 @@ use Prim.Native.Nat.{_-_, _≤_}
 use mathlib.Core.Path.{refl, sym, _∙_}
 use native.Mathlib.Omega.{arith}
 use lib.ListN.{length}
-use Rattle.lines.proofs.Lines.{appended-long}
+use Rattle.slices.proofs.Appending.{appended-long}
 use Rattle.text.proofs.Feeding.{Upto, upto-none, upto-next, upto-refused, upto-all}
 use Rattle.text.proofs.feed.Statement.{statement}
 use Rattle.text.proofs.feed.Tie as tie

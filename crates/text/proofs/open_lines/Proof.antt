@@ -3,7 +3,7 @@
 use Prim.Native.Nat.{_-_, _≤_}
 use native.Mathlib.Omega.{arith}
 use lib.ListN.{length}
-use Rattle.lines.proofs.Lines.{appended-long}
+use Rattle.slices.proofs.Appending.{appended-long}
 use Rattle.text.proofs.Finishing.{Lined, lined-none, lined-room, lined-next, lined-all}
 use Rattle.text.proofs.open_lines.Statement.{statement}
 use Rattle.text.proofs.open_lines.Tie as tie

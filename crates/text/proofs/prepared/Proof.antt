@@ -13,7 +13,7 @@ use Rattle.table.proofs.Form.{Reads}
 use Rattle.prepare.proofs.Answers.{sized-reads}
 use Rattle.prepare.proofs.Promises.{shown-never, prepare-refused-so}
 use Rattle.text.specs.Calls.{unpredictable, opens}
-use Rattle.lines.proofs.Lines.{appended-long}
+use Rattle.slices.proofs.Appending.{appended-long}
 use Rattle.lines.proofs.Widths.{lookahead-width, refused-width}
 use Rattle.text.proofs.Beginning.{prepare-taken, counted, never-counted}
 use borrow.Author.Needs.{needs}

@@ -4,7 +4,7 @@ use Prim.Native.Nat.{_≤_}
 use native.Mathlib.Omega.{arith}
 use lib.ListN.{length}
 use Rattle.lines.specs.Lines.{refusedLine, resolutionLine}
-use Rattle.lines.proofs.Lines.{appended-none}
+use Rattle.slices.proofs.Appending.{appended-none}
 use Rattle.lines.proofs.Widths.{refused-width, resolution-width}
 use borrow.Author.Needs.{needs}
 use Rattle.text.proofs.reply.Statement.{statement}

@@ -5,9 +5,9 @@ use mathlib.Core.Path.{refl}
 use native.Mathlib.Omega.{arith}
 use lib.ListN.{length}
 use borrow.Author.Needs.{needs}
 use Rattle.slices.proofs.Parts.{part-pasted}
-use Rattle.lines.proofs.append.Statement.{statement}
-use Rattle.lines.proofs.append.Tie as tie
+use Rattle.slices.proofs.append.Statement.{statement}
+use Rattle.slices.proofs.append.Tie as tie
 
 returns : tie.Need-returns
 returns c =
