@@ -8,13 +8,13 @@ use mathlib.Core.List.{List}
 use native.Mathlib.Omega.{arith}
 use lib.Dec.{eqb, ltb, leb}
 use lib.ListN.{length}
-use borrow.Author.Tests.{lt-ltb, ltb-false, leb-true, eqb-true, eqb-false, not-false}
+use borrow.Author.Tests.{lt-ltb, ltb-true, ltb-false, leb-true, eqb-true, eqb-false, not-false}
 use Rattle.bitset.proofs.Tests.{and-out, decided, or-none}
 use Rattle.semiautomata.specs.Semiautomaton.{Within}
 use Rattle.refusals.specs.Checks.{within, firstOf, Numbered}
 use Rattle.refusals.proofs.First.{first-le, first-behind, first-before}
 use Rattle.plan.specs.declared.Header.{Header}
-use Rattle.plan.specs.Plan.{countOff, startHigh, startOff, lineOff}
+use Rattle.plan.specs.Plan.{countOff, startHigh, startOff, lineOff, lineTwice}
 use Rattle.semiautomata.specs.Sizes.{Sized}
 use Rattle.plan.specs.Asked.{refusalOf, Proper}
 use Rattle.plan.specs.Bytes.{headerOf, lineWidth, parsed, meaning, placed, misplaced, headerChecks, partChecks, planChecks}
@@ -111,12 +111,27 @@ module _ (plan : List ℕ) (w : WellFormed plan) where
   pub well-formed-range : InRange (headerOf plan .n) (headerOf plan .m) (headerOf plan .p) (headerOf plan .e)
   well-formed-range = header-clear plan (headerOf plan) clear .0
 
+  -- the bytes have a header, and the parts lie within them
+  pub well-formed-long : 16 ≤ length plan
+  well-formed-long = elim (decided (ltb (length plan) 16)) [
+    | inl e ↦ absurd (omega (arith, refused-short plan (ltb-true _ _ e)))
+    | inr e ↦ ltb-false _ _ e
+  ]
+
+  pub well-formed-sound : Sound plan (headerOf plan)
+  well-formed-sound = header-clear plan (headerOf plan) clear .1
+
+  -- no start is off, no line is off, no line stands twice
+  pub well-formed-parts : (startOff (parsed plan) ≡ false) × (lineOff (parsed plan) ≡ false) × (lineTwice (parsed plan) ≡ false)
+  well-formed-parts =
+      let (starts, e) = none-next (startOff (parsed plan)) 4 _ (refused-parts plan clear ∙ w) in
+      let (lines, e) = none-next (lineOff (parsed plan)) 5 _ e in
+      (starts, lines, none-next (lineTwice (parsed plan)) 6 _ e .0)
+
   pub well-formed-within : Within (meaning plan)
   well-formed-within =
-      let P = parsed plan in
-      let (starts, e) = none-next (startOff P) 4 _ (refused-parts plan clear ∙ w) in
-      let (lines, e) = none-next (lineOff P) 5 _ e in
-      plan-within P (or-none (startHigh P) _ starts .0) lines
+      let (starts, lines, _) = well-formed-parts in
+      plan-within (parsed plan) (or-none (startHigh (parsed plan)) _ starts .0) lines
 
   pub well-formed-sized : Sized (meaning plan)
   well-formed-sized = let r = well-formed-range in record {

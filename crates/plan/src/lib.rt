@@ -6,7 +6,9 @@ ghost use Prim.Native.Nat.{_+_, _≤_, _<_};
 ghost use lib.ListN.{length};
 ghost use Rattle.refusals.specs.Checks.{firstOf};
 ghost use Rattle.plan.specs.Plan.{countOff};
-ghost use Rattle.plan.specs.Bytes.{headerOf, parsedBy, misplaced, headerChecks, asked, outcomeOfReading, planCounts, reading};
+ghost use Rattle.plan.specs.Bytes.{headerOf, parsedBy, meaning, misplaced, headerChecks, asked, WellFormed, outcomeOfReading};
+ghost use Rattle.plan.specs.Bytes.{planCounts, reading};
+ghost use Rattle.bitset.specs.Numbers.{setOf};
 ghost use Rattle.semiautomata.specs.Successors.{Blank};
 ghost use Rattle.plan.specs.Loading.{Loads};
 ghost use Rattle.plan.specs.inner.Steps.{Sound, StartsEntered, LinesEntered};
@@ -15,7 +17,7 @@ use semiautomata::MAX_LINES;
 use semiautomata::MAX_STATES;
 
 // A line has so many bytes.
-const LINE_WIDTH: usize = 3;
+pub const LINE_WIDTH: usize = 3;
 
 // The eight numbers at the front of a plan.
 pub struct Header {
@@ -47,7 +49,7 @@ pub enum Loaded {
     Refused(u8),
 }
 
-fn header_of(plan: &[u8]) -> Header
+pub fn header_of(plan: &[u8]) -> Header
     requires { ⌜ 16 ≤ length (now plan) ⌝ }
     ensures { λ r. ⌜ r ≡ headerOf (now (plan .entry)) ⌝ }
 {
@@ -237,4 +239,14 @@ pub fn read(plan: &[u8]) -> Reading
             starts: _,
         } => Reading::Counts { n, m, p, e },
     }
+}
+
+// The starts of a plan that passes 1 to 7, as a set.
+pub fn starts_of(plan: &[u8]) -> u64
+    requires { ⌜ WellFormed (now plan) ⌝ }
+    ensures { λ r. ⌜ r ≡ setOf (meaning (now (plan .entry)) .n) (meaning (now (plan .entry)) .initial) ⌝ }
+{
+    let h = header_of(plan);
+    let starts = enter_starts(plan, h);
+    starts.set
 }
