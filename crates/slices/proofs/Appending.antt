@@ -3,9 +3,11 @@
 use Prim.Native.Nat.{ℕ, zero, suc, _+_, _-_, _≤_, _<_}
 use mathlib.Core.Path.{_≡_, sym, _∙_, ap}
 use mathlib.Core.List.{List, [], _++_, append-assoc, append-nil}
+use native.Mathlib.Numerals.{add-one}
 use native.Mathlib.Omega.{arith}
 use lib.ListN.{length, take, drop, take-append-drop, length-append, length-take, length-drop}
 use lib.Seq.{take-at, drop-at, drop-drop}
+use Rattle.slices.specs.Copying.{atFront}
 use Rattle.slices.specs.Appending.{each, Room, Appended}
 
 pub appended-none : {old : List ℕ} (at : ℕ) → at ≤ length old → Appended old at [] at old
@@ -48,6 +50,10 @@ module _ {old : List ℕ} {at : ℕ} {a : List ℕ} {r : ℕ} {mid : List ℕ} (
   pub room-on : {b : List ℕ} → Room old at (a ++ b) → Room mid r b
   room-on {b} h = record { fits = omega (arith, p .end, appended-long, length-append a b) }
 
+-- from the front on
+pub appended-front : {old xs out : List ℕ} {r : ℕ} → Appended old 0 xs r out → (r ≡ length xs) × (out ≡ atFront xs old)
+appended-front {old} {xs} p = let e : 0 + length xs ≡ length xs = omega arith in (p .end ∙ e, rw e at (p .is))
+
 -- .. and for what comes first
 pub room-left : {old : List ℕ} {at : ℕ} (a b : List ℕ) → Room old at (a ++ b) → Room old at a
 room-left a b h = record { fits = omega (arith, length-append a b) }
@@ -59,10 +65,15 @@ unfolding each
 each-le i zero f = let e : zero + i ≡ i = omega arith in rw e (omega arith)
 each-le i (suc d) f = let e : suc d + i ≡ suc (d + i) = omega arith in rw (e, length-append) (omega (arith, each-le i d f))
 
--- room for all is room for the first of them
-pub room-each : {old : List ℕ} {at : ℕ} (n : ℕ) (f : ℕ → List ℕ) → Room old at (each n f) → (i : ℕ) → i < n → Room old at (each i f ++ f i)
-unfolding each
-room-each n f h i g =
-    let e : n - suc i + suc i ≡ n = omega arith in
-    let l : length (each (suc i) f) ≤ length (each n f) = rw e at (each-le (suc i) (n - suc i) f) in
-    record { fits = omega (arith, h .fits) }
+-- the first i are put: there is room for the next where there is room for all, and with it the first i + 1 are put
+module _ (f : ℕ → List ℕ) (i : ℕ) {old : List ℕ} {at r : ℕ} {mid : List ℕ} (p : Appended old at (each i f) r mid) where
+  pub each-room : (n : ℕ) → Room old at (each n f) → i < n → Room mid r (f i)
+  unfolding each
+  each-room n h g =
+      let e : n - suc i + suc i ≡ n = omega arith in
+      let l : length (each (suc i) f) ≤ length (each n f) = rw e at (each-le (suc i) (n - suc i) f) in
+      room-on p (record { fits = omega (arith, h .fits) })
+
+  pub each-next : {s : ℕ} {out : List ℕ} → Appended mid r (f i) s out → Appended old at (each (i + 1) f) s out
+  unfolding each
+  each-next q = rw add-one (appended-on p q)

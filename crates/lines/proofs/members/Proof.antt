@@ -2,12 +2,11 @@
 -- Assumes nothing.
 use Prim.Native.Nat.{_-_, _≤_}
 use mathlib.Core.Path.{_≡_}
-use native.Mathlib.Numerals.{add-one}
 use native.Mathlib.Omega.{arith}
 use Rattle.bitset.specs.Numbers.{has}
 use Rattle.slices.specs.Appending.{each, Appended}
 use Rattle.lines.specs.Lines.{listed}
-use Rattle.slices.proofs.Appending.{appended-none, appended-on, appended-long, room-on, room-each}
+use Rattle.slices.proofs.Appending.{appended-none, appended-long, each-room, each-next}
 use Rattle.lines.proofs.members.Statement.{statement}
 use Rattle.lines.proofs.members.Tie as tie
 
@@ -22,21 +21,14 @@ unfolding each
 loop-holds c = let s = c .before in (omega arith, appended-none (s .args .at) (omega (arith, s .pre .fits)))
 
 member-requires : tie.Need-member-requires Inv-loop μ-loop
-unfolding each
 member-requires c κs =
-    let start = c .before .before .before .before in
     let i = c .before .before .loop in
-    room-on (i .inv .1) (room-each 64 _ (start .pre)
-    (i .s) (omega arith))
+    each-room _ _ (i .inv .1) 64 (c .before .before .before .before .pre) (omega arith)
 
 loop-again : tie.Need-loop-again Inv-loop μ-loop
-unfolding each
 loop-again c =
-    let at-loop = c .before .before .before .before .before in (
-      omega arith,
-      rw (add-one, each)
-          (appended-on (at-loop .loop .inv .1) (c .before .before .member .ensures)),
-    )
+    let at-loop = c .before .before .before .before .before in
+    (omega arith, each-next _ _ (at-loop .loop .inv .1) (c .before .before .member .ensures))
 
 same-length : tie.Need-same-length Inv-loop μ-loop
 same-length c = appended-long (c .before .loop .inv .1)

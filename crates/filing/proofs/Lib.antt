@@ -1,0 +1,12 @@
+pub mod Each
+pub mod Listing
+pub mod Counting
+pub mod Parsing
+pub mod Ordered
+pub mod Passing
+pub mod Form
+pub mod Theorems
+pub mod Members
+pub mod Gathering
+pub mod Words
+pub mod Writing

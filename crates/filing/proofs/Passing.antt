@@ -1,0 +1,98 @@
+-- Bytes that have the parts of a well-formed plan, ascending and without gaps, mean what it means and are well formed.
+-- Assumes nothing.
+use Prim.Native.Nat.{ℕ, _+_, _*_, _<_}
+use mathlib.Core.Bool.{Bool, true, false, not, _||_, and-false}
+use mathlib.Core.Path.{_≡_, refl, sym, _∙_, ap, subst, fun-ext}
+use mathlib.Core.Logic.{inl, inr}
+use mathlib.Core.List.{List}
+use native.Mathlib.Omega.{arith}
+use lib.Dec.{eqb, ltb}
+use lib.ListN.{length}
+use borrow.Author.Tests.{lt-ltb, le-ltb, le-leb, lt-leb, eqb-true, eq-eqb}
+use Rattle.bitset.proofs.Tests.{not-so}
+use Rattle.bitset.proofs.Below.{any-in, any-none}
+use Rattle.semiautomata.specs.Semiautomaton.{Semiautomaton, Within}
+use Rattle.refusals.proofs.First.{passed-first, first-passed}
+use Rattle.plan.specs.declared.Header.{Header}
+use Rattle.plan.specs.Plan.{Line, Plan, semiautomaton, countOff, twice, startHigh, startOff, lineOff, lineTwice}
+use Rattle.plan.specs.Asked.{refusalOf}
+use Rattle.plan.specs.Bytes.{headerOf, lineWidth, parsed, meaning, misplaced, planChecks, WellFormed}
+use Rattle.plan.specs.Written.{line}
+use Rattle.plan.proofs.Refusals.{plan-numbered, well-formed-within}
+use Rattle.filing.specs.Theorems.{headerInOrder, Before, Ascends, SameParts}
+use Rattle.filing.proofs.Counting.{same-line, line-same}
+
+-- the parts of a header without gaps lie well
+without-gaps : (h : Header) → misplaced (headerInOrder h) ≡ false
+without-gaps h =
+    let p = h .p in
+    let e = lineWidth * h .e in
+    rw (
+      le-leb (16 + p) (16 + p + e) (omega arith),
+      le-leb 16 (16 + p) (omega arith),
+      le-leb (16 + p + e) (16 + p + e) (omega arith),
+      le-ltb (16 + p) (16 + p) (omega arith),
+      and-false,
+      and-false,
+    )
+
+before-other : (l k : Line) → Before l k → ¬ (l ≡ k)
+before-other l k (inl h) e = let d = ap (λ (l : Line). l .from) e in omega arith
+before-other l k (inr (_, inl h)) e = let d = ap (λ (l : Line). l .letter) e in omega arith
+before-other l k (inr (_, inr (_, h))) e = let d = ap (λ (l : Line). l .to) e in omega arith
+
+-- no two of c are the same
+once : (c : ℕ) (same : ℕ → ℕ → Bool) → ((i j : ℕ) → i < j → j < c → ¬ (same i j ≡ true)) → twice c same ≡ false
+once c same f = any-none _ _ (λ j g. any-none _ _ (λ i h. not-so _ (f i j h g)))
+
+-- 5 to 7
+module _ (P : Plan) (W : Within (semiautomaton P)) (A : Ascends P) where
+  starts-fit : startOff P ≡ false
+  starts-fit =
+      let low : startHigh P ≡ false =
+      any-none _ _ (λ i h. lt-leb _ _ (W .initial-lt (P .start i) (any-in (P .p) _ i h (eq-eqb (P .start i) _ refl)))) in
+      rw low (once _ _ (λ i j h g e. omega (arith, A .starts i j h g, eqb-true (P .start i) (P .start j) e)))
+
+  lines-fit : lineOff P ≡ false
+  lines-fit = any-none _ _ (λ i h.
+      let l = P .line i in
+      let e = any-in (P .e) _ i h (line-same l) in
+      rw (
+        lt-ltb (l .from) _ (W .from-lt _ (l .letter) (l .to) e),
+        lt-ltb (l .letter) _ (W .letter-lt (l .from) _ (l .to) e),
+        lt-ltb (l .to) _ (W .to-lt (l .from) (l .letter) _ e),
+      ))
+
+  lines-once : lineTwice P ≡ false
+  lines-once = once _ _ (λ i j h g e. before-other (P .line i) (P .line j) (A .lines i j h g) (same-line (P .line i) (P .line j) e))
+
+-- 2 and 3 of a plan to which none applies
+pub clear-counts : (plan : List ℕ) → WellFormed plan
+    → (not (eqb (headerOf plan .edition) 1) ≡ false)
+    × (countOff (headerOf plan .n) (headerOf plan .m) (headerOf plan .p) (headerOf plan .e) ≡ false)
+unfolding refusalOf planChecks
+clear-counts plan w = let (_, (edition, (counts, _))) = first-passed 7 (planChecks plan) (plan-numbered plan) w in (edition, counts)
+
+module _ (plan bytes : List ℕ) (is : headerOf bytes ≡ headerInOrder (headerOf plan)) (same : SameParts (parsed bytes) (parsed plan)) where
+  pub same-meaning : meaning bytes ≡ meaning plan
+  same-meaning = λ i. record {
+    n = ap (λ (h : Header). h .n) is i;
+    m = ap (λ (h : Header). h .m) is i;
+    initial = fun-ext (same .starts) i;
+    edge = fun-ext (λ s. fun-ext (λ a. fun-ext (λ t. same .lines (line s a t)))) i;
+  }
+
+  pub passes : WellFormed plan → length bytes ≡ headerOf bytes .total → Ascends (parsed bytes) → WellFormed bytes
+  unfolding refusalOf planChecks
+  passes w long A =
+      let (edition, counts) = clear-counts plan w in
+      let W = subst (λ (S : Semiautomaton). Within S) (sym same-meaning) (well-formed-within plan w) in
+      let total = ap (λ (h : Header). h .total) is in
+      let c₁ : (ltb (length bytes) 16 || not (eqb (headerOf bytes .total) (length bytes))) ≡ false =
+      rw (le-ltb (length bytes) 16 (omega arith), eq-eqb (headerOf bytes .total) (length bytes) (sym long)) in
+      let c₂ = ap (λ (h : Header). not (eqb (h .edition) 1)) is ∙ edition in
+      let c₃ = ap (λ (h : Header). countOff (h .n) (h .m) (h .p) (h .e)) is ∙ counts in
+      let c₄ = ap misplaced is ∙ without-gaps (headerOf plan) in
+      let c₅ = starts-fit (parsed bytes) W A in
+      let c₆ = lines-fit (parsed bytes) W A in
+      passed-first (planChecks bytes) (c₁, (c₂, (c₃, (c₄, (c₅, (c₆, (lines-once (parsed bytes) W A, tt)))))))

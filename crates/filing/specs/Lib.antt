@@ -1,0 +1,4 @@
+pub mod Filed
+pub mod Writing
+pub mod Theorems
+pub mod inner
