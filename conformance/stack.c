@@ -21,6 +21,8 @@ static size_t table_len;
 static uint8_t letters[GAWHERINO_MAX_LETTERS];
 static size_t letters_len;
 static uint32_t evidence[GAWHERINO_EVIDENCE];
+static uint8_t out[GAWHERINO_MAX_WRITTEN];
+static size_t out_len;
 static uint8_t word[5000];
 static size_t word_len;
 static uint64_t sets[5001];
@@ -39,6 +41,7 @@ static uint32_t state, letter, answer;
     X(count, COUNT, (const uint8_t *a, size_t b), (plan, plan_len)) \
     X(check, CHECK, (const uint8_t *a, size_t b, const uint32_t *c, size_t d, const uint8_t *e, size_t f), \
       (plan, plan_len, evidence, GAWHERINO_EVIDENCE, letters, letters_len)) \
+    X(write, WRITE, (const uint8_t *a, size_t b, uint8_t *c, size_t d), (plan, plan_len, out, out_len)) \
     X(walk, WALK, (const uint64_t *a, size_t b, const uint8_t *c, size_t d, uint64_t *e, size_t f, uint64_t *g, size_t h), \
       (table, table_len, word, word_len, sets, word_len + 1, length, 1)) \
     X(judge, JUDGE, (const uint64_t *a, size_t b, uint32_t c, uint32_t d, const uint8_t *e, size_t f, uint64_t *g, size_t h), \
@@ -246,7 +249,7 @@ static void lettered(const char *text, size_t n, size_t m)
 #define NONE (GAWHERINO_REFUSED + GAWHERINO_NO_LOOKAHEAD)
 #define SOME 65535u /* some look-ahead */
 
-/* Every call on one plan with this look-ahead: reading, counting and preparing, refused ones too; a walk; claims. */
+/* Every call on one plan with this look-ahead: reading, writing, counting and preparing, refused ones too; a walk; claims. */
 static void on_this_plan(uint32_t expected, size_t legs)
 {
     uint32_t n, k, i, j, refused;
@@ -255,9 +258,11 @@ static void on_this_plan(uint32_t expected, size_t legs)
     if (n >= GAWHERINO_REFUSED)
         n = 1;
     table_len = GAWHERINO_MAX_TABLE;
-    letters_len = 0;
+    letters_len = out_len = 0;
     measure(PREPARE); /* 9 */
+    measure(WRITE);
     letters_len = GAWHERINO_MAX_LETTERS;
+    out_len = GAWHERINO_MAX_WRITTEN;
     for (i = 0; i < 16; i++) { /* damaged plan bytes: one of 1 to 7, mostly */
         size_t at = i < 8 ? 2 * i : 16 + below((uint32_t)(plan_len - 16 + 1));
         kept = plan[at];
@@ -267,7 +272,12 @@ static void on_this_plan(uint32_t expected, size_t legs)
         measure(LOOK_AHEAD);
         measure(PREPARE);
         measure(CHECK);
+        measure(WRITE);
         plan[at] = kept;
+    }
+    if (measure(WRITE) != plan_len) {
+        fprintf(stderr, "stack: a plan without gaps is not written as long as it is\n");
+        exit(2);
     }
     measure(COUNT);
     measure(LOOK_AHEAD);

@@ -1,4 +1,4 @@
-/* Gawherino for C: every call on plans, tables and records, over plain numbers and lent slices. Version 1.0.1.
+/* Gawherino for C: every call on plans, tables and records, over plain numbers and lent slices. Version 1.1.0.
  *
  * USE. The plan's bytes are in plan; the logger gives one code for each leg. No call allocates, so room is lent:
  *
@@ -44,8 +44,8 @@ extern "C" {
 /* The version of this header. A change of a call's parameters, of what it answers, or of the table's or the record's form raises the first
  * number, a further call the second. */
 #define GAWHERINO_VERSION_MAJOR 1
-#define GAWHERINO_VERSION_MINOR 0
-#define GAWHERINO_VERSION_PATCH 1
+#define GAWHERINO_VERSION_MINOR 1
+#define GAWHERINO_VERSION_PATCH 0
 
 /* ANSWERS */
 
@@ -98,12 +98,13 @@ static inline uint32_t gawherino_refusal(uint32_t answer)
 #define GAWHERINO_MAX_LINES 4096u
 #define GAWHERINO_MAX_PLAN 65535u
 /* What any plan needs at most: its look-ahead k; the numbers of its table, 4 + n * m; the bytes of its record, 8 + k; the bytes for the
- * codes of evidence, n * n; the sets of an ending, k. */
+ * codes of evidence, n * n; the sets of an ending, k; the bytes of its one form, 16 + p + 3 * e. */
 #define GAWHERINO_MAX_LOOKAHEAD 2016u
 #define GAWHERINO_MAX_TABLE 2052u
 #define GAWHERINO_MAX_RECORD 2024u
 #define GAWHERINO_MAX_LETTERS 4096u
 #define GAWHERINO_MAX_SETS 2016u
+#define GAWHERINO_MAX_WRITTEN 12368u
 /* The most legs of one walk. */
 #define GAWHERINO_MAX_LEGS 1000000u
 
@@ -135,6 +136,7 @@ static inline uint32_t gawherino_refusal(uint32_t answer)
 #define GAWHERINO_STACK_LOOK_AHEAD 36864u
 #define GAWHERINO_STACK_COUNT 40960u
 #define GAWHERINO_STACK_CHECK 16896u
+#define GAWHERINO_STACK_WRITE 16640u
 #define GAWHERINO_STACK_WALK 256u
 #define GAWHERINO_STACK_JUDGE 512u
 #define GAWHERINO_STACK_OPEN 256u
@@ -147,7 +149,8 @@ static inline uint32_t gawherino_refusal(uint32_t answer)
  *
  * A set of stakes is a 64-bit number, bit s for stake s.
  *
- * A plan is bytes: document 01 and README.md have their layout.
+ * A plan is bytes: document 01 and README.md have their layout. One plan may be laid out in many ways; gawherino_write puts it into one
+ * form.
  *
  * A table is 64-bit numbers: n, m, k, the starts, then at 4 + stake * m + code the set of stakes that the code leads to. They stand in the
  * machine's own byte order: keep the plan, and prepare it again on each machine.
@@ -184,6 +187,11 @@ uint32_t gawherino_count(const uint8_t *plan, size_t plan_len);
  * not read. Refused with 1 to 7. */
 uint32_t gawherino_check(const uint8_t *plan, size_t plan_len, const uint32_t *claim, size_t claim_len, const uint8_t *letters,
                          size_t letters_len);
+
+/* Writing a plan in its one form: how many bytes it wrote; into out (16 + p + 3 * e bytes, also where the plan has more): the plan with its
+ * starts at 16, ascending, and its lines directly behind them, ascending by from, code and to. Equal n, m, starts and lines give equal
+ * bytes, and different ones different bytes. Refused with 1 to 7, 9. */
+uint32_t gawherino_write(const uint8_t *plan, size_t plan_len, uint8_t *out, size_t out_len);
 
 /* CALLS ON A TABLE */
 

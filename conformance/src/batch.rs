@@ -2,6 +2,8 @@
 //! than needed, or are short by one.
 
 use crate::cases::Case;
+use crate::families::Draft;
+use crate::forms::plan::length;
 use crate::forms::{evidence, letters, max_look_ahead, record, table, COUNTS, LENGTH, POSITION, REFUSED, STARTS, VERDICT};
 use crate::random::{bytes, claims, plans, records, tables, walks, Random};
 use crate::reference::lookahead::look_ahead;
@@ -21,8 +23,9 @@ fn lend(r: &mut Random, needed: usize) -> usize {
     }
 }
 
-/// Every call on plan bytes, with room for a plan of n and m.
-fn plan_calls(r: &mut Random, plan: &[u8], n: usize, m: usize) -> Vec<Case> {
+/// Every call on plan bytes, with room for the plan that was drawn.
+fn plan_calls(r: &mut Random, plan: &[u8], drawn: &Draft) -> Vec<Case> {
+    let (n, m) = (drawn.n, drawn.m);
     let mut lend = |needed| lend(r, needed);
     vec![
         Case::read(plan, lend(COUNTS)),
@@ -30,7 +33,33 @@ fn plan_calls(r: &mut Random, plan: &[u8], n: usize, m: usize) -> Vec<Case> {
         Case::look_ahead(plan, lend(letters(n)), lend(evidence::NUMBERS)),
         Case::count(plan),
         Case::check(plan, [STARTS, 0, 0, 1, 0, 1].as_slice(), [0u8].as_slice()),
+        Case::write(plan, lend(length(drawn.starts.len(), drawn.lines.len()))),
     ]
+}
+
+/// Writing the plan that was drawn, now and then a full one, in any order and layout, into buffers around the written form's length and
+/// the plan's own.
+fn written(r: &mut Random, drawn: &Draft) -> Vec<Case> {
+    let mut plan = if r.percent(2) { plans::full(r) } else { drawn.clone() };
+    let needed = length(plan.starts.len(), plan.lines.len());
+    let mut cases = Vec::new();
+    for _ in 0..3 {
+        match r.below(4) {
+            0 => plan.starts.sort(),
+            1 => r.shuffle(&mut plan.starts),
+            _ => {}
+        }
+        match r.below(4) {
+            0 => plan.lines.sort(),
+            1 => r.shuffle(&mut plan.lines),
+            _ => {}
+        }
+        let bytes = bytes::layout(r, &plan);
+        let any = r.below(needed + 20);
+        let more = needed + r.below(20);
+        cases.push(Case::write(&bytes, r.pick(&[needed - 1, needed, needed, more, more, bytes.len(), bytes.len() - 1, any, 0])));
+    }
+    cases
 }
 
 /// The name of a critical set, mostly one of several stakes, sometimes off the plan.
@@ -112,7 +141,7 @@ pub fn batch(r: &mut Random) -> (Vec<u8>, Vec<Case>) {
     let draft = plans::plan(r);
     let bytes = bytes::layout(r, &draft);
     let (n, m) = (draft.n, draft.m);
-    let mut cases = plan_calls(r, &bytes, n, m);
+    let mut cases = plan_calls(r, &bytes, &draft);
     // the generator draws plans that pass 1 to 7; if the reference refuses one, let the comparison tell
     let Ok(Read { plan, .. }) = read(&bytes) else { return (bytes, cases) };
     let k = look_ahead(&plan);
@@ -123,9 +152,10 @@ pub fn batch(r: &mut Random) -> (Vec<u8>, Vec<Case>) {
         while r.percent(30) {
             bytes::damage(r, &mut damaged, 2);
         }
-        let calls = plan_calls(r, &damaged, n, m);
+        let calls = plan_calls(r, &damaged, &draft);
         cases.push(r.pick(&calls));
     }
+    cases.extend(written(r, &draft));
     // claims: true ones with others near to them, and any
     let mut claims = vec![claims::any(r, &plan), claims::any(r, &plan)];
     if let Some((evidence, codes)) = claim::example(&plan, &mut |ways| r.below(ways)) {

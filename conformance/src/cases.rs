@@ -2,7 +2,7 @@
 //! the same elements in every lent slice.
 
 use crate::calls::{Calls, Description, CALLS};
-use crate::classes::class;
+use crate::classes::met;
 use crate::forms::{evidence, letters, REFUSED};
 use crate::lent::{hex, pattern, Element, Given};
 use crate::reference::calls::{why, Reference};
@@ -74,7 +74,7 @@ impl Call {
     /// Runs it on the reference and on a subject.
     fn compare(&self, subject: &dyn Calls) -> Result<Vec<String>, String> {
         let mut expected = self.on(&Reference);
-        let met = class(&expected, why());
+        let met = met(&expected, why());
         let given = self.on(subject);
         if expected.reply == REFUSED + 15 && given.reply == expected.reply && self.place("evidence").is_some() {
             self.check_evidence(&given.left, subject)?;
@@ -82,7 +82,7 @@ impl Call {
             expected.left.write::<u8>("letters", given.left.slice("letters"));
         }
         expected.agree(&given, subject)?;
-        Ok(vec![met])
+        Ok(met)
     }
 
     /// Under 15 the choice of evidence is free, and all that document 01 asks of it is checked.

@@ -2,7 +2,8 @@
 //! nothing about it.
 
 use crate::cases::Outcome;
-use crate::forms::{table, GROUPS, NOTHING, REFUSED};
+use crate::forms::plan::{length, number, E, HEADER, LINE, LINES_AT, P, STARTS_AT, TOTAL};
+use crate::forms::{table, GROUPS, MAX_LINES, MAX_STAKES, NOTHING, REFUSED};
 
 /// The class of a count.
 pub fn count_class(k: u32) -> &'static str {
@@ -16,8 +17,55 @@ pub fn count_class(k: u32) -> &'static str {
     }
 }
 
-/// The class of what the reference gave; `why` says which part of a refusal's sentence applied.
-pub fn class(Outcome { reply, left }: &Outcome, why: &str) -> String {
+/// The classes of what the reference gave: that of the reply, and for writing those of what it was given.
+pub fn met(outcome: &Outcome, why: &str) -> Vec<String> {
+    let mut met = vec![class(outcome, why)];
+    if outcome.left.what.name == "write" {
+        let (plan, out): (&[u8], &[u8]) = (outcome.left.slice("plan"), outcome.left.slice("out"));
+        let further = match outcome.reply.checked_sub(REFUSED) {
+            None => to_write(plan, out.len()),
+            Some(9) => too_short(plan, out.len()),
+            Some(_) => vec![],
+        };
+        met.extend(further.iter().map(|class| format!("write {class}")));
+    }
+    met
+}
+
+/// Of a plan that was written: in which ways it was not in its one form, and how much was lent.
+fn to_write(plan: &[u8], lent: usize) -> Vec<&'static str> {
+    let [p, e, starts_at, lines_at, total] = [P, E, STARTS_AT, LINES_AT, TOTAL].map(|place| number(plan, place));
+    let (starts_end, lines_end) = (starts_at + p, lines_at + LINE * e);
+    let lines: Vec<&[u8]> = plan[lines_at..lines_end].chunks(LINE).collect();
+    let both = p > 0 && e > 0;
+    let classes = [
+        ("starts out of order", !plan[starts_at..starts_end].is_sorted()),
+        ("lines out of order", !lines.is_sorted()),
+        ("lines before the starts", both && lines_at < starts_at),
+        ("a gap before the parts", both && starts_at.min(lines_at) > HEADER),
+        ("a gap between the parts", both && starts_at.max(lines_at) > starts_end.min(lines_end)),
+        ("a gap behind the parts", both && total > starts_end.max(lines_end)),
+        ("no starts", p == 0 && e > 0),
+        ("no lines", p > 0 && e == 0),
+        ("neither starts nor lines", p == 0 && e == 0),
+        ("64 starts", p == MAX_STAKES),
+        ("4,096 lines", e == MAX_LINES),
+        ("room for the form alone", lent == length(p, e)),
+        ("more room", lent > length(p, e)),
+        ("less room than the plan has bytes", lent < total),
+    ];
+    classes.iter().filter(|class| class.1).map(|class| class.0).collect()
+}
+
+/// Of a plan that was refused with 9 at writing: by how much.
+fn too_short(plan: &[u8], lent: usize) -> Vec<&'static str> {
+    let needed = length(number(plan, P), number(plan, E));
+    let classes = [("9: short by one", lent + 1 == needed), ("9: nothing lent", lent == 0)];
+    classes.iter().filter(|class| class.1).map(|class| class.0).collect()
+}
+
+/// The class of a reply; `why` says which part of a refusal's sentence applied.
+fn class(Outcome { reply, left }: &Outcome, why: &str) -> String {
     let (name, reply) = (left.what.name, *reply);
     if reply >= REFUSED {
         return format!("{name} {}: {why}", reply - REFUSED);
@@ -26,6 +74,8 @@ pub fn class(Outcome { reply, left }: &Outcome, why: &str) -> String {
         "read" => "counts",
         "prepare" | "look_ahead" | "count" => count_class(reply),
         "check" => ["no", "yes"][reply as usize],
+        "write" if left.slice::<u8>("plan") == &left.slice::<u8>("out")[..reply as usize] => "in its form already",
+        "write" => "put into its form",
         "walk" => match (left.slice::<u8>("word").len() as u64, left.slice::<u64>("length")[0]) {
             (0, _) => "the empty word",
             (length, g) if g == length => "to its end",
@@ -106,6 +156,11 @@ const CLASSES: &[(&str, &[&[&str]])] = &[
     ("look_ahead", &[PLAN, EVIDENCE, COUNT, NO_COUNT]),
     ("count", &[PLAN, COUNT, NO_COUNT]),
     ("check", &[PLAN, &["yes", "no"]]),
+    ("write", &[PLAN, &["9: out", "9: short by one", "9: nothing lent", "in its form already", "put into its form"]]),
+    ("write", &[&["starts out of order", "lines out of order", "lines before the starts"]]),
+    ("write", &[&["a gap before the parts", "a gap between the parts", "a gap behind the parts"]]),
+    ("write", &[&["no starts", "no lines", "neither starts nor lines", "64 starts", "4,096 lines"]]),
+    ("write", &[&["room for the form alone", "more room", "less room than the plan has bytes"]]),
     ("walk", &[TABLE, &["9: sets", "9: length", "12: a code of the walk not below m", "13: no starts"]]),
     ("walk", &[&["the empty word", "to its end", "to g below its length"]]),
     ("judge", &[TABLE, &["9: sets", "12: 255 with a code other than 0", "12: the set's name off the plan"]]),

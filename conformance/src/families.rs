@@ -1,6 +1,6 @@
 //! Plans as lists, their bytes, and families of plans whose count is known.
 
-use crate::forms::plan::{header, HEADER, LINE};
+use crate::forms::plan::{header, length, HEADER, LINE};
 
 pub type Line = (u8, u8, u8);
 
@@ -20,10 +20,21 @@ pub fn draft(n: usize, m: usize, starts: &[u8], lines: &[Line]) -> Draft {
 impl Draft {
     /// Plan bytes: the starts behind the header, the lines behind them, no gaps.
     pub fn bytes(&self) -> Vec<u8> {
+        self.laid_out(false, [0; 3])
+    }
+
+    /// Plan bytes with the lines before the starts or behind them, and gaps of so many bytes before, between and behind the two.
+    pub fn laid_out(&self, lines_first: bool, gaps: [usize; 3]) -> Vec<u8> {
         let (p, e) = (self.starts.len(), self.lines.len());
-        let mut bytes = header([1, self.n, self.m, p, e, HEADER, HEADER + p, HEADER + p + LINE * e]);
-        bytes.extend(&self.starts);
-        bytes.extend(self.lines.iter().flat_map(|&(from, code, to)| [from, code, to]));
+        let first = HEADER + gaps[0];
+        let (starts_at, lines_at) = if lines_first { (first + LINE * e + gaps[1], first) } else { (first, first + p + gaps[1]) };
+        let total = length(p, e) + gaps.iter().sum::<usize>();
+        let mut bytes = header([1, self.n, self.m, p, e, starts_at, lines_at, total]);
+        bytes.resize(total, 255);
+        bytes[starts_at..][..p].copy_from_slice(&self.starts);
+        for (place, &(from, code, to)) in bytes[lines_at..][..LINE * e].chunks_mut(LINE).zip(&self.lines) {
+            place.copy_from_slice(&[from, code, to]);
+        }
         bytes
     }
 }

@@ -38,6 +38,11 @@ pub mod plan {
     /// The bytes of a line: from, code, to.
     pub const LINE: usize = 3;
 
+    /// The bytes of a plan without gaps.
+    pub const fn length(p: usize, e: usize) -> usize {
+        HEADER + p + LINE * e
+    }
+
     pub fn number(bytes: &[u8], place: usize) -> usize {
         u16::from_le_bytes([bytes[2 * place], bytes[2 * place + 1]]) as usize
     }

@@ -25,6 +25,7 @@ fn without_a_piece<T: Clone>(list: &[T]) -> Vec<Vec<T>> {
 }
 
 /// Plan bytes with some lines, starts or gaps left out, as long as the header says where the parts are; plan bytes need not be sound.
+/// The parts stand as they did too, with a gap of one byte for each there was, since at writing it may be that which matters.
 fn smaller_plans(bytes: &[u8]) -> Vec<Vec<u8>> {
     if bytes.len() < HEADER {
         return Vec::new();
@@ -47,12 +48,22 @@ fn smaller_plans(bytes: &[u8]) -> Vec<Vec<u8>> {
             plans.push(Draft { n: n - 1, m, starts: starts.iter().map(|&s| name(s)).collect(), lines });
         }
     }
-    let smaller = |plan: &Draft| {
-        let mut smaller = plan.bytes();
-        set_number(&mut smaller, EDITION, edition);
-        ((smaller.len(), smaller.as_slice()) < (bytes.len(), bytes)).then_some(smaller)
-    };
-    plans.iter().filter_map(smaller).collect()
+    let (starts_end, lines_end) = (starts_at + p, lines_at + LINE * e);
+    let [before, behind] = [starts_at.min(lines_at) > HEADER, starts_end.max(lines_end) < total].map(usize::from);
+    let between = (starts_at.max(lines_at) > starts_end.min(lines_end)) as usize;
+    let lines_first = lines_at < starts_at;
+    let layouts = [(false, [0; 3]), (lines_first, [0; 3]), (lines_first, [0, 0, behind]), (lines_first, [before, between, behind])];
+    let mut smaller = Vec::new();
+    for plan in &plans {
+        for (i, &(lines_first, gaps)) in layouts.iter().enumerate() {
+            let mut other = plan.laid_out(lines_first, gaps);
+            set_number(&mut other, EDITION, edition);
+            if (other.len(), other.as_slice()) < (bytes.len(), bytes) && !layouts[..i].contains(&layouts[i]) {
+                smaller.push(other);
+            }
+        }
+    }
+    smaller
 }
 
 /// Tables with sets emptied or without a bit, or with a smaller k.
@@ -96,7 +107,17 @@ fn smaller(case: &Case) -> Vec<Case> {
                 for given in smaller_given(parameter.name, &call.given[place]) {
                     let mut other = call.clone();
                     other.given[place] = given;
-                    cases.push(Case::Call(other));
+                    cases.push(Case::Call(other.clone()));
+                    // and with so much less room too, for what is written of it
+                    if let (Given::U8(before), Given::U8(now)) = (&call.given[place], &other.given[place]) {
+                        let fewer = before.len() - now.len();
+                        for given in &mut other.given {
+                            if let Given::Room(length) = given {
+                                *length = length.saturating_sub(fewer);
+                            }
+                        }
+                        cases.push(Case::Call(other));
+                    }
                 }
             }
             cases

@@ -5,7 +5,7 @@ mod common;
 use conformance::random::{bytes, claims, plans, Random};
 use conformance::reference::claim;
 use conformance::reference::lookahead::look_ahead;
-use conformance::reference::plan::{read, Plan};
+use conformance::reference::plan::{one_form, read, Plan};
 use conformance::reference::walk::{possible, reach, verdict, whole_walk};
 use conformance::reference::{members, only, size};
 
@@ -111,6 +111,26 @@ fn possible_stakes_and_verdicts_word_by_word() {
             let reached = reach(&plan, &only, &word);
             assert!((0..plan.n).all(|t| reached[t] == leads(&plan, s, &word, t)), "case {number}");
             assert_eq!(size(&possible(&plan, &only, &word)[0]) == 1, walks(&plan, s, &word), "case {number}");
+        }
+    }
+}
+
+/// Document 02, W-201: what stands where, and that nothing is left out, added or out of order.
+#[test]
+fn the_one_form_byte_by_byte() {
+    for (number, _, plan) in tiny_plans(3000) {
+        let form = one_form(&plan);
+        let [edition, n, m, p, e, starts_at, lines_at, total] =
+            std::array::from_fn(|place| form[2 * place] as usize + 256 * form[2 * place + 1] as usize);
+        assert_eq!((edition, n, m), (1, plan.n, plan.m), "case {number}");
+        assert_eq!([starts_at, lines_at, total, form.len()], [16, 16 + p, 16 + p + 3 * e, 16 + p + 3 * e], "case {number}");
+        let starts: Vec<usize> = form[16..16 + p].iter().map(|&stake| stake as usize).collect();
+        let lines: Vec<[usize; 3]> = form[16 + p..].chunks(3).map(|line| [line[0], line[1], line[2]].map(usize::from)).collect();
+        assert!(starts.windows(2).all(|pair| pair[0] < pair[1]) && lines.windows(2).all(|pair| pair[0] < pair[1]), "case {number}");
+        assert!((0..256).all(|stake| starts.contains(&stake) == (stake < n && plan.starts[stake])), "case {number}");
+        assert_eq!(e, plan.lines.iter().map(Vec::len).sum::<usize>(), "case {number}");
+        for (code, of_code) in plan.lines.iter().enumerate() {
+            assert!(of_code.iter().all(|&(from, to)| lines.contains(&[from, code, to])), "case {number}");
         }
     }
 }

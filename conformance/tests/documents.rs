@@ -1,5 +1,5 @@
-//! The answers that the documents themselves write down: plans A to H, the examples of 003 whose lines its text gives, and the cases of
-//! document 01 that are only run. Each is put to the reference, to plain.rs and to the library.
+//! The answers that the documents themselves write down: plans A to H, the examples of 003 whose lines its text gives, the cases of
+//! document 01 that are only run, and what document 02 asks for. Each is put to the reference, to plain.rs and to the library.
 
 mod common;
 
@@ -8,8 +8,9 @@ use conformance::cases::Case;
 use conformance::families::{all_pairs, draft, odometer, theorem_5, unary_chain, Draft, Line};
 use conformance::forms::plan::header;
 use conformance::forms::*;
-use conformance::lent::{Kind, Parameter};
-use conformance::random::Random;
+use conformance::lent::{pattern, Kind, Parameter};
+use conformance::random::{plans, Random};
+use conformance::reference::plan::read;
 use conformance::session::Session;
 use conformance::shrink::fail;
 
@@ -70,11 +71,11 @@ fn plan_c() -> Draft {
     draft(4, 2, &[0, 1], &[(0, 0, 2), (1, 0, 2), (2, 1, 3)])
 }
 
-#[test]
-fn plans_a_to_h() {
+/// Plans A to H as document 01 lists them, with their k or the refusal.
+fn listed() -> [(&'static str, Draft, Result<u32, u32>); 8] {
     let mut with_loop = plan_c();
     with_loop.lines.push((3, 1, 3));
-    let rows: [(&str, Draft, Result<u32, u32>); 8] = [
+    [
         ("A", plan_a(), Ok(1)),
         ("B", draft(2, 1, &[0], &[(0, 0, 0), (0, 0, 1), (1, 0, 1)]), Err(15)),
         ("C", plan_c(), Ok(3)),
@@ -83,7 +84,12 @@ fn plans_a_to_h() {
         ("F", draft(2, 1, &[0, 1], &[]), Ok(1)),
         ("G", draft(3, 2, &[0, 1], &[(0, 0, 1), (1, 0, 2), (1, 1, 0), (2, 1, 2)]), Ok(3)),
         ("H", with_loop, Err(15)),
-    ];
+    ]
+}
+
+#[test]
+fn plans_a_to_h() {
+    let rows = listed();
     for calls in common::everyone() {
         for (name, plan, expected) in &rows {
             counted(calls, plan, *expected, name);
@@ -181,6 +187,7 @@ fn numbers_of_the_header() {
         ("MAX_RECORD", record::length(k)),
         ("MAX_LETTERS", letters(MAX_STAKES)),
         ("MAX_SETS", k),
+        ("MAX_WRITTEN", plan::length(MAX_STAKES, MAX_LINES)),
         ("MAX_LEGS", MAX_LEGS as usize),
         ("REFUSED", REFUSED as usize),
         ("NOTHING", NOTHING as usize),
@@ -426,6 +433,7 @@ fn sizes_that_are_only_run() {
             Case::look_ahead(&many, letters(64), evidence::NUMBERS),
             Case::count(&many),
             Case::check(&many, [STARTS, 0, 0, 1, 0, 1].as_slice(), [0u8].as_slice()),
+            Case::write(&many, plan::length(1, 4097)),
         ] {
             case.compare(calls).unwrap_or_else(|message| fail(&case, calls, message, "e 4,097"));
         }
@@ -444,6 +452,189 @@ fn sizes_that_are_only_run() {
         let mut inside = header([1, 2, 1, 0, 1, 17, 16, 19]);
         inside.extend([0, 0, 1]);
         assert_eq!(calls.count(&inside), 0);
+    }
+}
+
+/// The plan in its one form, written into a buffer that is longer than needed and keeps its rest.
+fn written(calls: &dyn Calls, plan: &[u8]) -> Vec<u8> {
+    let mut out: Vec<u8> = pattern(plan.len() + 3);
+    let length = calls.write(plan, &mut out) as usize;
+    assert!(length <= plan.len(), "{length} for {} bytes by {}", plan.len(), calls.name());
+    assert_eq!(out[length..], pattern::<u8>(plan.len() + 3)[length..], "the rest by {}", calls.name());
+    out.truncate(length);
+    out
+}
+
+/// The plan in every layout, its starts and lines as listed, backwards and in any order.
+fn drawn_otherwise(plan: &Draft) -> Vec<Vec<u8>> {
+    let mut r = Random::new(common::seed(), 201);
+    let (mut backwards, mut shuffled) = (plan.clone(), plan.clone());
+    backwards.starts.reverse();
+    backwards.lines.reverse();
+    r.shuffle(&mut shuffled.starts);
+    r.shuffle(&mut shuffled.lines);
+    let (mut starts_alone, mut lines_alone) = (plan.clone(), plan.clone());
+    starts_alone.starts.reverse();
+    lines_alone.lines.reverse();
+    let orders = [plan.clone(), backwards, shuffled, starts_alone, lines_alone];
+    let gaps = [[0, 0, 0], [1, 0, 0], [0, 1, 0], [0, 0, 1], [5, 300, 2]];
+    orders.iter().flat_map(|plan| [false, true].map(|first| gaps.map(|gaps| plan.laid_out(first, gaps)))).flatten().collect()
+}
+
+/// Document 02, W-201: "one form: starts at 16 ascending, lines directly after them ascending by from, code and to, no gaps".
+/// `form` is a plan whose starts and lines are listed ascending; its bytes are what every other drawing of it must be written as.
+fn filed(calls: &dyn Calls, form: &Draft, name: &str) {
+    assert!(form.starts.windows(2).all(|pair| pair[0] < pair[1]) && form.lines.windows(2).all(|pair| pair[0] < pair[1]), "{name}");
+    let bytes = form.bytes();
+    let needed = 16 + form.starts.len() + 3 * form.lines.len();
+    assert_eq!(bytes.len(), needed, "{name}");
+    for plan in drawn_otherwise(form) {
+        assert_eq!(written(calls, &plan), bytes, "{name} by {}", calls.name());
+        // "A short output buffer is refused with 9": short of the form, whatever the plan's own length is
+        for lent in [0, 1, 15, 16, needed - 1] {
+            let mut out: Vec<u8> = pattern(lent.min(needed - 1));
+            assert_eq!(calls.write(&plan, &mut out), REFUSED + 9, "{name} into {lent} by {}", calls.name());
+            assert_eq!(out, pattern::<u8>(out.len()), "{name} into {lent} by {}", calls.name());
+        }
+        let mut out = vec![0; needed];
+        assert_eq!((calls.write(&plan, &mut out), &out), (needed as u32, &bytes), "{name} by {}", calls.name());
+    }
+    // "Reading the written form yields the plan it came from."
+    let mut counts = [0; COUNTS];
+    assert_eq!(calls.read(&bytes, &mut counts), form.n as u32, "{name}");
+    assert_eq!(counts, [form.m as u32, form.starts.len() as u32, form.lines.len() as u32], "{name}");
+}
+
+#[test]
+fn one_form_to_file() {
+    // A is listed in document 01 byte by byte, and in its form; G by hand, drawn with the lines first, backwards, and with gaps
+    let a = [1, 0, 3, 0, 1, 0, 1, 0, 3, 0, 0x10, 0, 0x11, 0, 0x1A, 0, 0, 0, 0, 1, 1, 0, 1, 1, 0, 2];
+    let g = [1, 0, 3, 0, 2, 0, 2, 0, 4, 0, 0x10, 0, 0x12, 0, 0x1E, 0, 0, 1, 0, 0, 1, 1, 0, 2, 1, 1, 0, 2, 1, 2];
+    let g_header = [1, 0, 3, 0, 2, 0, 2, 0, 4, 0, 0x1E, 0, 0x11, 0, 0x23, 0];
+    let g_parts = [99, 2, 1, 2, 1, 1, 0, 1, 0, 2, 0, 0, 1, 99, 1, 0, 99, 99, 99];
+    // the greatest: 64 starts, and 4,096 lines over one code, four and 32
+    let stakes: Vec<u8> = (0..64).collect();
+    let every: Vec<Line> = (0..64).flat_map(|from| (0..64).map(move |to| (from, 0, to))).collect();
+    let across: Vec<Line> = (0..32).flat_map(|from| (0..4).flat_map(move |code| (32..64).map(move |to| (from, code, to)))).collect();
+    let twos: Vec<Line> = (0..64).flat_map(|from| (0..32).flat_map(move |code| [(from, code, code), (from, code, 63)])).collect();
+    for calls in common::everyone() {
+        assert_eq!(written(calls, &a), a);
+        assert_eq!(written(calls, &[&g_header[..], &g_parts].concat()), g);
+        for (name, plan, _) in &listed() {
+            filed(calls, plan, name);
+        }
+        for (lines, m) in [(&every, 1), (&across, 4), (&twos, 32)] {
+            assert_eq!(lines.len(), 4096);
+            filed(calls, &draft(64, m, &stakes, lines), "64 starts and 4,096 lines");
+            assert_eq!(written(calls, &draft(64, m, &stakes, lines).bytes()).len(), 12_368);
+        }
+        filed(calls, &draft(64, 32, &stakes, &[]), "64 starts and no line");
+        filed(calls, &draft(64, 1, &[], &every), "no start and 4,096 lines");
+        // from before code before to, each at its ends
+        let ends: Vec<Line> = [0, 63].iter().flat_map(|&from| [0, 31].map(|code| [0, 63].map(|to| (from, code, to)))).flatten().collect();
+        filed(calls, &draft(64, 32, &[0, 63], &ends), "the ends of every range");
+        // an empty part inside the other, and nothing but a gap
+        let mut inside = header([1, 2, 1, 0, 2, 17, 16, 22]);
+        inside.extend([1, 0, 1, 0, 0, 1]);
+        assert_eq!(written(calls, &inside), draft(2, 1, &[], &[(0, 0, 1), (1, 0, 1)]).bytes());
+        let mut gap = header([1, 2, 1, 0, 0, 18, 20, 20]);
+        gap.extend([7; 4]);
+        assert_eq!(written(calls, &gap), draft(2, 1, &[], &[]).bytes());
+    }
+}
+
+/// W-201: "a plan that passes 1 to 7"; one that does not is refused with the lowest of them that applies, also where the buffer is short.
+#[test]
+fn plans_that_are_not_written() {
+    let a = plan_a().bytes();
+    let changed = |place: usize, byte: u8| {
+        let mut bytes = a.clone();
+        bytes[place] = byte;
+        bytes
+    };
+    let refused = [
+        (1, a[..15].to_vec()),
+        (1, a[..25].to_vec()),
+        (2, changed(0, 2)),
+        (3, changed(2, 65)),
+        (3, changed(4, 33)),
+        (3, changed(6, 4)),
+        (3, changed(9, 17)),
+        (4, changed(10, 15)),
+        (4, changed(10, 17)),
+        (4, changed(12, 18)),
+        (5, changed(16, 3)),
+        (5, draft(2, 1, &[1, 1], &[]).bytes()),
+        (6, changed(20, 3)),
+        (6, changed(21, 1)),
+        (7, changed(25, 1)),
+    ];
+    for calls in common::everyone() {
+        for (number, plan) in &refused {
+            for lent in [0, 1, 25, 26, 100] {
+                let mut out: Vec<u8> = pattern(lent);
+                assert_eq!(calls.write(plan, &mut out), REFUSED + number, "{plan:?} into {lent} by {}", calls.name());
+                assert_eq!(out, pattern::<u8>(lent), "{plan:?} by {}", calls.name());
+            }
+        }
+    }
+}
+
+/// W-201: "Equal n, m, starts and lines give equal bytes, and different ones give different bytes."
+#[test]
+fn equal_and_different_plans() {
+    let plan = draft(5, 3, &[1, 3], &[(0, 1, 2), (2, 0, 4), (4, 2, 0)]);
+    let starts: [&[u8]; 4] = [&[1], &[1, 2], &[1, 3, 4], &[]];
+    let lines: [&[Line]; 8] = [
+        &[(1, 1, 2), (2, 0, 4), (4, 2, 0)],
+        &[(0, 0, 2), (2, 0, 4), (4, 2, 0)],
+        &[(0, 1, 3), (2, 0, 4), (4, 2, 0)],
+        &[(0, 1, 2), (2, 0, 4), (4, 2, 1)],
+        &[(0, 1, 2), (2, 0, 4)],
+        &[(0, 1, 2), (1, 0, 0), (2, 0, 4), (4, 2, 0)],
+        &[(2, 1, 0), (4, 0, 2), (0, 2, 4)],
+        &[],
+    ];
+    let mut all = vec![plan.clone(), Draft { n: 6, ..plan.clone() }, Draft { m: 4, ..plan.clone() }];
+    all.extend(starts.map(|starts| draft(5, 3, starts, &plan.lines)));
+    all.extend(lines.map(|lines| draft(5, 3, &plan.starts, lines)));
+    for calls in common::everyone() {
+        let mut r = Random::new(common::seed(), 202);
+        // random plans, and a change of one thing in each
+        let mut drawn = all.clone();
+        for _ in 0..150 {
+            let plan = plans::plan(&mut r);
+            drawn.push(Draft { n: (plan.n + 1).min(MAX_STAKES), ..plan.clone() });
+            drawn.push(Draft { m: (plan.m + 1).min(MAX_CODES), ..plan.clone() });
+            drawn.push(Draft { starts: plan.starts[..plan.starts.len() / 2].to_vec(), ..plan.clone() });
+            drawn.push(Draft { lines: plan.lines[..plan.lines.len() / 2].to_vec(), ..plan.clone() });
+            drawn.push(plan);
+        }
+        let mut forms = std::collections::BTreeMap::new();
+        for plan in drawn {
+            // the plan that the bytes mean, so that its order does not matter
+            let (mut starts, mut lines) = (plan.starts.clone(), plan.lines.clone());
+            starts.sort();
+            lines.sort();
+            let meaning = (plan.n, plan.m, starts, lines);
+            for bytes in [plan.bytes(), plan.laid_out(true, [1, 2, 3])] {
+                let form = written(calls, &bytes);
+                assert_eq!(written(calls, &form), form, "written twice by {}", calls.name());
+                let again = read(&form).expect("the form passes 1 to 7").plan;
+                let came_from = read(&bytes).expect("sound").plan;
+                assert_eq!((again.n, again.m, &again.starts), (came_from.n, came_from.m, &came_from.starts));
+                for (mut some, mut others) in again.lines.into_iter().zip(came_from.lines) {
+                    some.sort();
+                    others.sort();
+                    assert_eq!(some, others);
+                }
+                let before = forms.entry(form).or_insert_with(|| meaning.clone());
+                assert_eq!(*before, meaning, "different plans give equal bytes by {}", calls.name());
+            }
+        }
+        let meanings: std::collections::BTreeSet<_> = forms.values().collect();
+        assert_eq!(meanings.len(), forms.len(), "equal plans give different bytes by {}", calls.name());
+        assert!(forms.len() > 300);
     }
 }
 

@@ -2,7 +2,8 @@
 
 use conformance::calls::Calls;
 use conformance::families::{draft, ladder, odometer, Draft, Line};
-use conformance::forms::{evidence, letters, record, table, COUNTS, LENGTH, MAX_CODES, MAX_LINES, MAX_STAKES, POSITION, REFUSED};
+use conformance::forms::{evidence, letters, plan, record, table};
+use conformance::forms::{COUNTS, LENGTH, MAX_CODES, MAX_LINES, MAX_STAKES, POSITION, REFUSED};
 use conformance::library::Library;
 use conformance::plain::Plain;
 use conformance::random::Random;
@@ -159,8 +160,8 @@ fn main() {
     let mut r = Random::new(2007, 3);
     println!("Processor time for one operation: the median of {SAMPLES} samples of some 20 ms ({FEW_SAMPLES} where one operation takes");
     println!("longer), taken of both sides in turn, with the quartiles. The timed part is the calls alone, each with all its checks:");
-    println!("from plan bytes for read, count (gawherino_look_ahead) and prepare; from a table for a leg (8 on the whole table each time)");
-    println!("and a whole walk. A leg's time is that of opening and all legs (20,000 to 1,000,000), divided by their number.");
+    println!("from plan bytes for read, write, count (gawherino_look_ahead) and prepare; from a table for a leg (8 on the whole table");
+    println!("each time) and a whole walk. A leg's time is that of opening and all legs (20,000 to 1,000,000), divided by their number.");
     println!();
     println!("| what | library | plain Rust | plain / library |");
     println!("|---|---|---|---|");
@@ -174,6 +175,27 @@ fn main() {
     {
         row(name, 1, &|calls| {
             black_box(calls.read(black_box(plan), &mut [0; COUNTS]));
+        });
+    }
+
+    // with numbers of its own, so that the plans of the other rows stay as they are
+    let mut own = Random::new(2007, 201);
+    let mut any_order = any_lines(&mut own, MAX_CODES, MAX_LINES);
+    any_order.starts = (0..MAX_STAKES as u8).collect();
+    own.shuffle(&mut any_order.starts);
+    let mut in_order = any_order.clone();
+    in_order.starts.sort();
+    in_order.lines.sort();
+    for (name, plan) in [
+        ("write, 4,096 lines over 64 × 32 in any order, 64 starts", &any_order.bytes()),
+        ("write, the same in order already", &in_order.bytes()),
+        ("write, plan A", &small),
+    ] {
+        let out = std::cell::RefCell::new([0; plan::length(MAX_STAKES, MAX_LINES)]);
+        let written = agreed(&|calls| calls.write(plan, out.borrow_mut().as_mut_slice()));
+        assert_eq!(written as usize, plan.len());
+        row(name, 1, &|calls| {
+            black_box(calls.write(black_box(plan), out.borrow_mut().as_mut_slice()));
         });
     }
 

@@ -175,6 +175,20 @@ fn large(r: &mut Random) -> Draft {
     Draft { n: MAX_STAKES, m, starts: some_starts(r, MAX_STAKES, starts), lines }
 }
 
+/// A plan of the greatest size: 64 starts and 4,096 lines.
+pub fn full(r: &mut Random) -> Draft {
+    let m = r.among(1, MAX_CODES);
+    let mut lines: Vec<Line> = Vec::new();
+    for from in 0..MAX_STAKES as u8 {
+        for code in 0..m as u8 {
+            lines.extend((0..MAX_STAKES as u8).map(|to| (from, code, to)));
+        }
+    }
+    r.shuffle(&mut lines);
+    lines.truncate(MAX_LINES);
+    Draft { n: MAX_STAKES, m, starts: some_starts(r, MAX_STAKES, MAX_STAKES), lines }
+}
+
 /// The stakes under other numbers, and the lines in another order.
 fn renumber(r: &mut Random, plan: &mut Draft) {
     let mut name: Vec<u8> = (0..plan.n as u8).collect();

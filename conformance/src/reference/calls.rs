@@ -36,7 +36,7 @@ fn lent<T>(slice: &[T], needed: usize, why: &'static str) -> Result<(), Refusal>
 }
 
 /// Writes the beginning of a slice that is long enough.
-fn write<T: Copy>(slice: &mut [T], beginning: &[T]) {
+fn put<T: Copy>(slice: &mut [T], beginning: &[T]) {
     slice[..beginning.len()].copy_from_slice(beginning);
 }
 
@@ -47,7 +47,7 @@ fn numbers(sets: &[Stakes]) -> Vec<u64> {
 fn read(plan: &[u8], counts: &mut [u32]) -> Result<u32, Refusal> {
     let Read { plan, p, e } = plan::read(plan)?;
     lent(counts, COUNTS, "counts")?;
-    write(counts, &[plan.m as u32, p as u32, e as u32]);
+    put(counts, &[plan.m as u32, p as u32, e as u32]);
     Ok(plan.n as u32)
 }
 
@@ -59,8 +59,8 @@ fn counted(plan: &Plan, letters: &mut [u8], evidence: &mut [u32]) -> Result<usiz
         return Ok(k);
     }
     let (claim, codes) = claim::example(plan, &mut |_| 0).expect("there is no k");
-    write(evidence, &claim);
-    write(letters, &codes);
+    put(evidence, &claim);
+    put(letters, &codes);
     refuse(15, "no k")
 }
 
@@ -68,7 +68,7 @@ fn prepare(plan: &[u8], table: &mut [u64], letters: &mut [u8], evidence: &mut [u
     let plan = plan::read(plan)?.plan;
     lent(table, table_length(plan.n, plan.m), "table")?;
     let k = counted(&plan, letters, evidence)?;
-    write(table, &table_of(&plan, k));
+    put(table, &table_of(&plan, k));
     Ok(k as u32)
 }
 
@@ -87,13 +87,20 @@ fn check(plan: &[u8], claim: &[u32], letters: &[u8]) -> Result<u32, Refusal> {
     Ok(claim::holds(&plan::read(plan)?.plan, claim, letters) as u32)
 }
 
+fn write(plan: &[u8], out: &mut [u8]) -> Result<u32, Refusal> {
+    let form = plan::one_form(&plan::read(plan)?.plan);
+    lent(out, form.len(), "out")?;
+    put(out, &form);
+    Ok(form.len() as u32)
+}
+
 fn walk(table: &[u64], word: &[u8], sets: &mut [u64], length: &mut [u64]) -> Result<u32, Refusal> {
     let (plan, _) = plan_of(table)?;
     lent(sets, word.len() + 1, "sets")?;
     lent(length, 1, "length")?;
     let walk = walks::whole_walk(&plan, word)?;
-    write(length, &[walk.len() as u64 - 1]);
-    write(sets, &numbers(&walk));
+    put(length, &[walk.len() as u64 - 1]);
+    put(sets, &numbers(&walk));
     Ok(0)
 }
 
@@ -101,15 +108,15 @@ fn judge(table: &[u64], state: u32, letter: u32, word: &[u8], sets: &mut [u64]) 
     let (plan, _) = plan_of(table)?;
     lent(sets, VERDICT, "sets")?;
     let verdict = walks::verdict(&plan, state, letter, word)?;
-    write(sets, &numbers(&[verdict.can_walk, verdict.maximal_nonselector]));
+    put(sets, &numbers(&[verdict.can_walk, verdict.maximal_nonselector]));
     Ok(verdict.is_minimal_selector as u32)
 }
 
 /// What opening and a leg write and answer.
 fn booked((booking, record): (Booking, Record), rec: &mut [u8], position: &mut [u32]) -> u32 {
-    write(rec, &record.to_bytes());
+    put(rec, &record.to_bytes());
     let Some((place, stake)) = booking else { return NOTHING };
-    write(position, &[place as u32]);
+    put(position, &[place as u32]);
     stake as u32
 }
 
@@ -133,7 +140,7 @@ fn finish(table: &[u64], rec: &[u8], sets: &mut [u64]) -> Result<u32, Refusal> {
     lent(rec, record_length(k), "record")?;
     lent(sets, k, "sets")?;
     let open = record::finish(&plan, k, &Record::from_bytes(rec, k))?;
-    write(sets, &numbers(&open));
+    put(sets, &numbers(&open));
     Ok(open.len() as u32)
 }
 

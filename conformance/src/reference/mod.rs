@@ -1,4 +1,4 @@
-//! The reference: document 01 and the paper (003) in the plainest Rust. A set is a vector of booleans, a plan the list of its lines,
+//! The reference: documents 01 and 02 and the paper (003) in the plainest Rust. A set is a vector of booleans, a plan the list of its lines,
 //! a refusal is given where its sentence stands. Nothing here is fast, and nothing here calls the library.
 
 pub mod calls;

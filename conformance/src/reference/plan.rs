@@ -1,7 +1,7 @@
-//! Plan bytes: refusals 1 to 7 in their order, and the plan that the bytes mean.
+//! Plan bytes: refusals 1 to 7 in their order, the plan that the bytes mean, and the one form in which a plan is filed.
 
 use super::forms::{number, EDITION, HEADER, LINE, MOST_CODES, MOST_LINES, MOST_STAKES, STARTS};
-use super::{refuse, Refusal, Stakes};
+use super::{members, refuse, Refusal, Stakes};
 use std::collections::BTreeSet;
 
 /// A semiautomaton: for each code its lines, as (from, to).
@@ -144,4 +144,30 @@ pub fn read(bytes: &[u8]) -> Result<Read, Refusal> {
         lines[code].push((from, to));
     }
     Ok(Read { plan: Plan { n, m, starts, lines }, p, e })
+}
+
+/// W-201, "one form: starts at 16 ascending, lines directly after them ascending by from, code and to, no gaps".
+pub fn one_form(plan: &Plan) -> Vec<u8> {
+    let starts = members(&plan.starts);
+    let mut lines = Vec::new();
+    for code in 0..plan.m {
+        for &(from, to) in &plan.lines[code] {
+            lines.push((from, code, to));
+        }
+    }
+    lines.sort();
+    let lines_at = HEADER + starts.len();
+    let total = lines_at + LINE * lines.len();
+    let mut form = Vec::new();
+    for number in [EDITION, plan.n, plan.m, starts.len(), lines.len(), HEADER, lines_at, total] {
+        form.push((number % 256) as u8);
+        form.push((number / 256) as u8);
+    }
+    for stake in starts {
+        form.push(stake as u8);
+    }
+    for (from, code, to) in lines {
+        form.extend([from as u8, code as u8, to as u8]);
+    }
+    form
 }

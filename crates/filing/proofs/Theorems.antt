@@ -18,7 +18,7 @@ use Rattle.filing.specs.Filed.{filed}
 use Rattle.filing.specs.Writing.{writeRefusal, shortFiled, Writes}
 use Rattle.filing.specs.Theorems.{SameParts, Theorems}
 use Rattle.filing.proofs.Passing.{same-meaning, passes}
-use Rattle.filing.proofs.Form.{filed-same, FormOf, written-form}
+use Rattle.filing.proofs.Form.{filed-same, FormOf, form-most, written-form}
 
 same-both : {P Q R : Plan} → SameParts P Q → SameParts P R → SameParts Q R
 same-both q r = record { starts = λ s. sym (q .starts s) ∙ r .starts s; lines = λ l. sym (q .lines l) ∙ r .lines l }
@@ -54,6 +54,7 @@ theorems = record {
   parts = λ plan bytes w. written-form plan bytes w .parts;
   order = λ plan bytes w. written-form plan bytes w .order;
   header = λ plan bytes w. let f = written-form plan bytes w in (f .header, f .long);
+  most = λ plan bytes w. form-most (written-form plan bytes w);
   equal = λ plan bytes plan′ bytes′ w w′.
       let f = written-form plan bytes w in
       let f′ = written-form plan′ bytes′ w′ in (

@@ -12,7 +12,7 @@ use Rattle.plan.specs.Bytes.{headerOf, lineWidth, parsed, meaning, planCounts, 
 use Rattle.plan.specs.declared.Header.{Header}
 use Rattle.filing.specs.declared.Written.{Written}
 use Rattle.filing.specs.declared.Written.the-variants.{Bytes}
-use Rattle.filing.specs.Filed.{isStart, isLine}
+use Rattle.filing.specs.Filed.{isStart, isLine, maxWritten}
 use Rattle.filing.specs.Writing.{Writes}
 
 -- These bytes were written for the plan: as many as were answered, at the front of what was lent.
@@ -63,6 +63,7 @@ pub record Theorems : Type 0 where
   -- and no gap: the header says where they stand, and the bytes end with them.
   pub header : (plan bytes : List ℕ) → WrittenFor plan bytes
       → (headerOf bytes ≡ headerInOrder (headerOf plan)) × (length bytes ≡ headerOf bytes .total)
+  pub most : (plan bytes : List ℕ) → WrittenFor plan bytes → length bytes ≤ maxWritten
   -- Equal n, m, starts and lines give equal bytes, different ones different bytes.
   pub equal : (plan bytes plan′ bytes′ : List ℕ) → WrittenFor plan bytes → WrittenFor plan′ bytes′
       → (bytes ≡ bytes′)

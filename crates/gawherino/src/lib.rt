@@ -4,7 +4,7 @@ ghost use Rattle.refusals.specs.Groups.{groupOf};
 ghost use Rattle.plan.specs.Bytes.{asked};
 ghost use Rattle.prepare.specs.Preparing.{Draws};
 ghost use Rattle.numbers.specs.Numbers.{groupNumber};
-ghost use Rattle.plan_calls.specs.Promises.{PassesReading, PassesPrepared, PassesCount, PassesCheck};
+ghost use Rattle.plan_calls.specs.Promises.{PassesReading, PassesPrepared, PassesCount, PassesCheck, PassesWriting};
 ghost use Rattle.table_calls.specs.Promises.{PassesWalk, PassesVerdict};
 ghost use Rattle.record_calls.specs.Promises.{PassesOpening, PassesLetter, PassesEnding};
 
@@ -55,6 +55,14 @@ pub extern "C" fn gawherino_check(plan: &[u8], claim: &[u32], letters: &[u8]) ->
     ensures { λ r. ⌜ PassesCheck (asked (now (plan .entry))) (now (claim .entry)) (now (letters .entry)) r ⌝ }
 {
     plan_calls::check(plan, claim, letters)
+}
+
+// Writing a plan in the form to file: how many bytes.
+#[no_mangle]
+pub extern "C" fn gawherino_write(plan: &[u8], out: &mut [u8]) -> u32
+    ensures { λ r. ⌜ PassesWriting (now (plan .entry)) r (now (out .entry)) (now (out .exit)) ⌝ }
+{
+    plan_calls::write(plan, out)
 }
 
 // CALLS ON A TABLE

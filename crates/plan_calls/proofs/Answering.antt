@@ -37,7 +37,7 @@ module _ (A : Asked) (P : Proper A) where
   unfolding refusalOf
   unread-number = refused-number (A .checks) asked-numbered
 
-  short-number : (b : Bool) {r : ℕ} → r ≡ refusalWith A b → ¬ (r ≡ 0) → Number (refusing r)
+  pub short-number : (b : Bool) {r : ℕ} → r ≡ refusalWith A b → ¬ (r ≡ 0) → Number (refusing r)
   unfolding refusalWith
   short-number b = refused-number (A .checks ++ (short b ∷ [])) (numbered-both lastRefusal (A .checks) (short b ∷ []) asked-numbered refl)
 

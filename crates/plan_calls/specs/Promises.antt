@@ -15,6 +15,8 @@ use Rattle.claim.specs.Checking.{Checks, outcomeOfChecked}
 use Rattle.prepare.specs.declared.Prepared.{Prepared}
 use Rattle.prepare.specs.declared.Prepared.the-variants.{Ready, Refused, Unpredictable}
 use Rattle.prepare.specs.Preparing.{Prepares, CountsTo, outcomeOfPrepared, asNumber}
+use Rattle.filing.specs.declared.Written.{Written}
+use Rattle.filing.specs.Writing.{Writes, outcomeOfWritten}
 use Rattle.numbers.specs.Numbers.{Numbers, valued, inNumbers, Passed, PassesOn}
 
 -- THE NUMBERS OF EACH OUTCOME
@@ -66,3 +68,9 @@ pub record PassesCheck (A : Asked) (claim letters : List ℕ) (r : ℕ) : Type 0
   pub meets : Checks A (claimOf claim) letters answer
   pub passed : Passed (ofChecked answer) r [] []
   pub short : length claim < 6 → ¬ (r ≡ 1)
+
+-- Writing: how many bytes, or 65,536 plus the refusal.
+pub record PassesWriting (plan : List ℕ) (r : ℕ) (old out : List ℕ) : Type 0 where
+  pub answer : Written
+  pub meets : Writes plan answer old out
+  pub is : r ≡ asNumber (outcomeOfWritten answer)

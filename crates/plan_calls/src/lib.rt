@@ -1,5 +1,5 @@
-// The calls on plan bytes for C, over plain numbers and lent slices: reading, preparing, the count call, the drawing program's entry and
-// the check of a claim. Where a slice for further values has too few places for the most that a call may have to put there, the call is
+// The calls on plan bytes for C, over plain numbers and lent slices: reading, preparing, the count call, the drawing program's entry, the
+// check of a claim and writing. Where a slice for further values has too few places for the most that a call may have to put there, the call is
 // refused with 9 before anything is written.
 ghost use mathlib.Core.Path.{_≡_};
 ghost use Prim.Native.Nat.{_≤_};
@@ -8,8 +8,10 @@ ghost use Rattle.plan.specs.Bytes.{planChecks, asked};
 ghost use Rattle.prepare.specs.Preparing.{Draws};
 ghost use Rattle.numbers.specs.Numbers.{Passed, noRoom};
 ghost use Rattle.plan_calls.specs.Promises.{ofPrepared, claimOf, PassesReading, PassesPrepared, PassesCount, PassesCheck};
+ghost use Rattle.plan_calls.specs.Promises.{PassesWriting};
 ghost use Rattle.plan_calls.specs.inner.Sizes.{Fit32};
 use claim::Checked;
+use filing::Written;
 use lookahead::Evidence;
 use numbers::REFUSED;
 use plan::Reading;
@@ -136,5 +138,16 @@ pub fn check(plan: &[u8], claim: &[u32], letters: &[u8]) -> u32
         Checked::Yes => 1,
         Checked::No => 0,
         Checked::Refused(r) => REFUSED + r as u32,
+    }
+}
+
+// Writing a plan in the form to file: how many bytes.
+pub fn write(plan: &[u8], out: &mut [u8]) -> u32
+    ensures { λ r. ⌜ PassesWriting (now (plan .entry)) r (now (out .entry)) (now (out .exit)) ⌝ }
+{
+    let written = filing::write(plan, out);
+    match written {
+        Written::Bytes(count) => count as u32,
+        Written::Refused(r) => REFUSED + r as u32,
     }
 }
