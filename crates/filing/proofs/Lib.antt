@@ -10,3 +10,4 @@ pub mod Members
 pub mod Gathering
 pub mod Words
 pub mod Writing
+pub mod Sample

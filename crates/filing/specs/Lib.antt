@@ -1,4 +1,5 @@
 pub mod Filed
 pub mod Writing
+pub mod Sample
 pub mod Theorems
 pub mod inner
