@@ -18,6 +18,7 @@ use Rattle.bitset.proofs.Below.{any-in, any-out, any-not, any-none, any-cong, w
 use Rattle.bitset.proofs.Bits.{has-empty, has-high, has-setOf, setOf-lt, some-member, fits}
 use Rattle.semiautomata.specs.Semiautomaton.{Semiautomaton, Within}
 use Rattle.semiautomata.specs.Levels.{live, Repeats}
+use Rattle.semiautomata.specs.Sizes.{maxSets}
 use Rattle.semiautomata.specs.Successors.{successors, Fit, setAt, Blank}
 use Rattle.semiautomata.proofs.Shares.{share-swap, share-shorter}
 use Rattle.semiautomata.proofs.Levels.{with-and, live-in, live-out, live-fixed}
@@ -47,7 +48,7 @@ pub record At (n m : ℕ) (sets rival rows struck back : List ℕ) (gone j : ℕ
   pub ends : Ends (successors n m 0 sets) j struck gone
   pub shared : (i : ℕ) → i < j → Sharing (successors n m 0 sets) rival i
   pub long : length back ≡ 2048
-  pub fresh : j ≡ 0 → Blank back
+  pub fresh : j ≡ 0 → Blank maxSets back
   pub turned : 0 < j → Turned n m sets back
 
 -- x is live now, y at the next level, w in the list of work: what is struck, and what is left

@@ -19,6 +19,7 @@ use Rattle.bitset.specs.Sets.{any, single}
 use Rattle.bitset.specs.Numbers.{has, setOf}
 use Rattle.bitset.proofs.Tests.{decided, and-out, not-so, or-none}
 use Rattle.bitset.proofs.Bits.{has-or, has-and, has-empty, has-setOf, has-insert, has-test, shl-one, same-members}
+use Rattle.semiautomata.specs.Sizes.{maxSets}
 use Rattle.semiautomata.specs.Successors.{place, Blank}
 use Rattle.semiautomata.proofs.Successors.{place-lt}
 use Rattle.semiautomata.proofs.Places.{size-le, place-same}
@@ -74,7 +75,7 @@ module _ (P : Plan) (states : P .n ≤ 64) {i set : ℕ} {off : Bool} (w : Start
 
 -- LINES
 
-pub lines-none : (P : Plan) {sets : List ℕ} → Blank sets → LinesEntered (linesTo 0 P) sets (record { off = false; twice = false })
+pub lines-none : (P : Plan) {sets : List ℕ} → Blank maxSets sets → LinesEntered (linesTo 0 P) sets (record { off = false; twice = false })
 unfolding any
 lines-none P b = record {
   size = b .long;

@@ -9,6 +9,7 @@ ghost use Rattle.plan.specs.Plan.{countOff};
 ghost use Rattle.plan.specs.Bytes.{headerOf, parsedBy, meaning, misplaced, headerChecks, asked, WellFormed, outcomeOfReading};
 ghost use Rattle.plan.specs.Bytes.{planCounts, reading};
 ghost use Rattle.bitset.specs.Numbers.{setOf};
+ghost use Rattle.semiautomata.specs.Sizes.{maxSets};
 ghost use Rattle.semiautomata.specs.Successors.{Blank};
 ghost use Rattle.plan.specs.Loading.{Loads};
 ghost use Rattle.plan.specs.inner.Steps.{Sound, StartsEntered, LinesEntered};
@@ -155,7 +156,7 @@ struct Lines {
 
 // Each line whose numbers are below their counts is put into the set at its place, unless it stands there already.
 fn enter_lines(plan: &[u8], h: Header, sets: &mut [u64; semiautomata::MAX_SETS]) -> Lines
-    requires { ⌜ Sound (now plan) h × Blank (now sets) ⌝ }
+    requires { ⌜ Sound (now plan) h × Blank maxSets (now sets) ⌝ }
     ensures { λ r. ⌜ LinesEntered (parsedBy h (now (plan .entry))) (now (sets .exit)) r ⌝ }
 {
     let n = h.n as usize;
@@ -197,7 +198,7 @@ fn first_of_parts(start: bool, line: bool, again: bool) -> u8
 
 // What a plan means, in sets lent empty: its initial states are answered with its counts. Or its lowest refusal.
 pub fn load(plan: &[u8], sets: &mut [u64; semiautomata::MAX_SETS]) -> Loaded
-    requires { ⌜ Blank (now sets) ⌝ }
+    requires { ⌜ Blank maxSets (now sets) ⌝ }
     ensures { λ r. ⌜ Loads (asked (now (plan .entry))) (planCounts (headerOf (now (plan .entry)))) (now (sets .exit)) r ⌝ }
 {
     if plan.len() < 16 {

@@ -14,6 +14,7 @@ use borrow.Author.Tests.{ltb-true, lt-ltb, le-ltb, eqb-true, eq-eqb}
 use Rattle.bitset.specs.Numbers.{has}
 use Rattle.bitset.proofs.Tests.{and-out, not-so, same-test}
 use Rattle.bitset.proofs.Bits.{has-empty, has-setOf, has-shl, same-members, setOf-lt}
+use Rattle.semiautomata.specs.Sizes.{maxSets}
 use Rattle.semiautomata.specs.Successors.{place, Fit, setAt, Blank}
 use Rattle.semiautomata.proofs.Successors.{place-lt, place-of, letter-lt}
 use Rattle.rows.specs.Turned.{Turned}
@@ -26,7 +27,7 @@ pub record Turning (m i : ℕ) (sets back : List ℕ) : Type 0 where
   pub is : (r b x : ℕ) → b < m → has (setAt m back r b) x ≡ (ltb (place m x b) i && has (setAt m sets x b) r)
 
 module _ {m : ℕ} {sets : List ℕ} where
-  pub turning-first : {back : List ℕ} → Blank back → Turning m (place m 0 0) sets back
+  pub turning-first : {back : List ℕ} → Blank maxSets back → Turning m (place m 0 0) sets back
   turning-first k = record {
     long = k .long;
     is = λ r b x h. rw (k .zero (place m r b), has-empty, le-ltb (place m x b) (place m 0 0) (omega arith));

@@ -35,7 +35,7 @@ pub fn pair_up(rows: &mut [u64; 64], firsts: u64, seconds: u64)
 
 // The table turned round, into zeros: at each state and letter the states that the letter leads there.
 pub fn turn(back: &mut [u64; semiautomata::MAX_SETS], sets: &[u64], n: usize, m: usize)
-    requires { ⌜ Fit n m (now sets) × Blank (now back) ⌝ }
+    requires { ⌜ Fit n m (now sets) × Blank maxSets (now back) ⌝ }
     ensures { λ r. ⌜ (length (now (back .exit)) ≡ maxSets) × Turned n m (now (sets .entry)) (now (back .exit)) ⌝ }
 {
     for s in 0..n {

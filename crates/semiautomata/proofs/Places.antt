@@ -40,5 +40,5 @@ zeros-at zero i = refl
 zeros-at (suc k) zero = refl
 zeros-at (suc k) (suc i) = zeros-at k i
 
-pub blank : Blank (replicate 2048 0)
-blank = record { long = length-replicate {A = ℕ} 2048 0; zero = zeros-at 2048 }
+pub blank : (size : ℕ) → Blank size (replicate size 0)
+blank size = record { long = length-replicate {A = ℕ} size 0; zero = zeros-at size }

@@ -8,7 +8,7 @@ use lib.Dec.{ltb}
 use lib.ListN.{length, getD}
 use Rattle.bitset.specs.Numbers.{has}
 use Rattle.semiautomata.specs.Semiautomaton.{Semiautomaton}
-use Rattle.semiautomata.specs.Sizes.{maxStates, maxLetters, maxSets}
+use Rattle.semiautomata.specs.Sizes.{maxStates, maxLetters}
 
 -- the place of the states that letter a leads to from state q
 abbrev pub place : ℕ → ℕ → ℕ → ℕ
@@ -33,7 +33,7 @@ pub record Fit (n m : ℕ) (sets : List ℕ) : Type 0 where
   pub room : n * m ≤ length sets
   pub below : (i : ℕ) → i < n * m → getD sets i 0 < 2 ^ n
 
--- Room for the sets of the largest plan, all of them empty.
-pub record Blank (sets : List ℕ) : Type 0 where
-  pub long : length sets ≡ maxSets
+-- Room for so many sets, all of them empty.
+pub record Blank (size : ℕ) (sets : List ℕ) : Type 0 where
+  pub long : length sets ≡ size
   pub zero : (i : ℕ) → getD sets i 0 ≡ 0

@@ -8,7 +8,7 @@ use Rattle.claim.proofs.check.Statement.{statement}
 use Rattle.claim.proofs.check.Tie as tie
 
 load-requires : tie.Need-load-requires
-load-requires c κs = blank
+load-requires c κs = blank _
 
 slice-aggregate-is-true : tie.Need-slice-aggregate-is-true
 slice-aggregate-is-true c = let l = c .before .before in sym ((rw (l .loaded2 .given .1) at (l .before .before .load .ensures)) .3)

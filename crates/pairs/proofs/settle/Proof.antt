@@ -111,7 +111,7 @@ loop-holds c =
         ends = first-ends _ _ _ f e (l .share-letter .ensures .0) (l .share-letter .ensures .1) w u;
         shared = λ i h. absurd (omega arith);
         long = refl;
-        fresh = λ _. blank;
+        fresh = λ _. blank _;
         turned = λ h. absurd (omega arith);
       },
       l .before .before .before .common .ensures .0 (not-false _ (l .before .if1 .left)),

@@ -7,7 +7,7 @@ use Rattle.plan.proofs.read.Statement.{statement}
 use Rattle.plan.proofs.read.Tie as tie
 
 load-requires : tie.Need-load-requires
-load-requires c κs = blank
+load-requires c κs = blank _
 
 returns : tie.Need-returns
 returns c = loaded-refused _ (rw (c .before .loaded .given .1) at (c .before .before .before .load .ensures))
