@@ -17,8 +17,9 @@ static uint8_t filed[GAWHERINO_MAX_WRITTEN];
 
 /* Plan G as document 01 lists it, and as another group might draw it: lines before starts, both backwards, and gaps. */
 static const uint8_t listed[30] = {1, 0, 3, 0, 2, 0, 2, 0, 4, 0, 16, 0, 18, 0, 30, 0, 0, 1, 0, 0, 1, 1, 0, 2, 1, 1, 0, 2, 1, 2};
-static const uint8_t drawn[35] = {1, 0, 3, 0, 2, 0, 2, 0, 4, 0, 30, 0, 17, 0, 35, 0, 99, 2, 1,  2,  1,  1, 0, 1,
-                                  0, 2, 0, 0, 1, 99, 1, 0, 99, 99, 99};
+static const uint8_t drawn[35] = {1, 0, 3, 0, 2, 0, 2, 0, 4, 0, 30, 0, 17, 0, 35, 0, /* the eight numbers */
+                                  99, 2, 1, 2, 1, 1, 0, 1, 0, 2, 0, 0, 1,            /* a gap, the lines */
+                                  99, 1, 0, 99, 99, 99};                             /* a gap, the starts, a gap */
 
 static int sample(void)
 {

@@ -1,6 +1,6 @@
 -- Laws of the numbers below n that are in a set: whether there is one, how many there are, which is the least.
 -- Assumes nothing.
-use mathlib.Core.Bool.{Bool, true, false, not, _&&_, _||_, false≢true, and-true}
+use mathlib.Core.Bool.{Bool, true, false, not, _&&_, _||_, false≢true, and-true, or-false, or-assoc}
 use mathlib.Core.Path.{_≡_, refl, sym, _∙_, ap, ap₂}
 use mathlib.Core.Logic.{_⊎_, inl, inr}
 use Prim.Native.Nat.{ℕ, zero, suc, _+_, _≤_, _<_}
@@ -29,6 +29,12 @@ any-out (suc n) p e =
 -- the same, handed on
 pub with-any : {C : Type 0} (n : ℕ) (p : ℕ → Bool) → ((x : ℕ) → x < n → p x ≡ true → C) → any n p ≡ true → C
 with-any n p k e = let (x, h, q) = any-out n p e in k x h q
+
+-- from the front
+pub any-low : (n : ℕ) (p : ℕ → Bool) → any (suc n) p ≡ (p 0 || any n (λ x. p (suc x)))
+unfolding any
+any-low zero p = sym (or-false (p 0))
+any-low (suc n) p = rw (any-low n p, or-assoc)
 
 pub any-none : (n : ℕ) (p : ℕ → Bool) → ((x : ℕ) → x < n → p x ≡ false) → any n p ≡ false
 unfolding any

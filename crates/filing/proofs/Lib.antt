@@ -7,7 +7,7 @@ pub mod Passing
 pub mod Form
 pub mod Theorems
 pub mod Members
-pub mod Gathering
-pub mod Words
-pub mod Writing
+pub mod Blocks
+pub mod Places
+pub mod Promise
 pub mod Sample

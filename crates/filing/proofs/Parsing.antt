@@ -9,10 +9,11 @@ use lib.Seq.{getD-append-add}
 use Rattle.endian.specs.Numbers.{numberAt, bytesOf}
 use Rattle.endian.proofs.Numbers.{read-back}
 use Rattle.plan.specs.declared.Header.{Header}
-use Rattle.plan.specs.Plan.{Line, Plan}
+use Rattle.plan.specs.declared.Line.{Line}
+use Rattle.plan.specs.Plan.{Plan, line}
 use Rattle.plan.specs.Bytes.{headerOf, lineWidth, lineAt, parsed}
-use Rattle.plan.specs.Written.{Listed, line, lineBytes, joined, planBytes}
-use Rattle.filing.specs.inner.Steps.{headerBytes}
+use Rattle.plan.specs.Written.{Listed, lineBytes, joined, headerBytes, planBytes}
+use Rattle.filing.specs.Theorems.{headerInOrder}
 
 -- behind other bytes
 behind : (xs ys : List ℕ) (i j : ℕ) → j ≡ length xs + i → getD (xs ++ ys) j 0 ≡ getD ys i 0
@@ -38,19 +39,7 @@ joined-line (l ∷ ls) (suc i) d h =
 
 -- the header of what is listed
 abbrev pub headerListed : Listed → Header
-headerListed L =
-    let p = length (L .starts) in
-    let e = length (L .lines) in
-    record {
-      edition = 1;
-      n = L .n;
-      m = L .m;
-      p = p;
-      e = e;
-      starts = 16;
-      lines = 16 + p;
-      total = 16 + p + lineWidth * e;
-    }
+headerListed L = headerInOrder 1 (record { n = L .n; m = L .m; p = length (L .starts); e = length (L .lines) })
 
 -- a plan has the starts and lines that are listed
 pub record Lists (L : Listed) (P : Plan) : Type 0 where

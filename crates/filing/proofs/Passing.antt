@@ -12,21 +12,21 @@ use borrow.Author.Tests.{lt-ltb, le-ltb, le-leb, lt-leb, eqb-true, eq-eqb}
 use Rattle.bitset.proofs.Tests.{not-so}
 use Rattle.bitset.proofs.Below.{any-in, any-none}
 use Rattle.semiautomata.specs.Semiautomaton.{Semiautomaton, Within}
-use Rattle.refusals.proofs.First.{passed-first, first-passed}
+use Rattle.refusals.proofs.First.{passed-first}
 use Rattle.plan.specs.declared.Header.{Header}
-use Rattle.plan.specs.Plan.{Line, Plan, semiautomaton, countOff, twice, startHigh, startOff, lineOff, lineTwice}
+use Rattle.plan.specs.declared.Line.{Line}
+use Rattle.plan.specs.Plan.{Plan, line, semiautomaton, countOff, twice, startHigh, startOff, lineOff, lineTwice}
 use Rattle.plan.specs.Asked.{refusalOf}
-use Rattle.plan.specs.Bytes.{headerOf, lineWidth, parsed, meaning, misplaced, planChecks, WellFormed}
-use Rattle.plan.specs.Written.{line}
-use Rattle.plan.proofs.Refusals.{plan-numbered, well-formed-within}
+use Rattle.plan.specs.Bytes.{headerOf, lineWidth, parsed, meaning, misplaced, planChecks, WellFormed, PlanCounts, planCounts}
+use Rattle.plan.proofs.Refusals.{well-formed-clear, well-formed-within}
 use Rattle.filing.specs.Theorems.{headerInOrder, Before, Ascends, SameParts}
-use Rattle.filing.proofs.Counting.{same-line, line-same}
+use Rattle.plan.proofs.Plan.{same-line, line-same}
 
 -- the parts of a header without gaps lie well
-without-gaps : (h : Header) → misplaced (headerInOrder h) ≡ false
-without-gaps h =
-    let p = h .p in
-    let e = lineWidth * h .e in
+without-gaps : (edition : ℕ) (c : PlanCounts) → misplaced (headerInOrder edition c) ≡ false
+without-gaps edition c =
+    let p = c .p in
+    let e = lineWidth * c .e in
     rw (
       le-leb (16 + p) (16 + p + e) (omega arith),
       le-leb 16 (16 + p) (omega arith),
@@ -66,14 +66,11 @@ module _ (P : Plan) (W : Within (semiautomaton P)) (A : Ascends P) where
   lines-once : lineTwice P ≡ false
   lines-once = once _ _ (λ i j h g e. before-other (P .line i) (P .line j) (A .lines i j h g) (same-line (P .line i) (P .line j) e))
 
--- 2 and 3 of a plan to which none applies
-pub clear-counts : (plan : List ℕ) → WellFormed plan
-    → (not (eqb (headerOf plan .edition) 1) ≡ false)
-    × (countOff (headerOf plan .n) (headerOf plan .m) (headerOf plan .p) (headerOf plan .e) ≡ false)
-unfolding refusalOf planChecks
-clear-counts plan w = let (_, (edition, (counts, _))) = first-passed 7 (planChecks plan) (plan-numbered plan) w in (edition, counts)
+-- the header of a plan's form
+abbrev pub inOrderOf : List ℕ → Header
+inOrderOf plan = headerInOrder (headerOf plan .edition) (planCounts (headerOf plan))
 
-module _ (plan bytes : List ℕ) (is : headerOf bytes ≡ headerInOrder (headerOf plan)) (same : SameParts (parsed bytes) (parsed plan)) where
+module _ (plan bytes : List ℕ) (is : headerOf bytes ≡ inOrderOf plan) (same : SameParts (parsed bytes) (parsed plan)) where
   pub same-meaning : meaning bytes ≡ meaning plan
   same-meaning = λ i. record {
     n = ap (λ (h : Header). h .n) is i;
@@ -85,14 +82,14 @@ module _ (plan bytes : List ℕ) (is : headerOf bytes ≡ headerInOrder (headerO
   pub passes : WellFormed plan → length bytes ≡ headerOf bytes .total → Ascends (parsed bytes) → WellFormed bytes
   unfolding refusalOf planChecks
   passes w long A =
-      let (edition, counts) = clear-counts plan w in
+      let (_, (edition, (counts, _))) = well-formed-clear plan w in
       let W = subst (λ (S : Semiautomaton). Within S) (sym same-meaning) (well-formed-within plan w) in
       let total = ap (λ (h : Header). h .total) is in
       let c₁ : (ltb (length bytes) 16 || not (eqb (headerOf bytes .total) (length bytes))) ≡ false =
       rw (le-ltb (length bytes) 16 (omega arith), eq-eqb (headerOf bytes .total) (length bytes) (sym long)) in
       let c₂ = ap (λ (h : Header). not (eqb (h .edition) 1)) is ∙ edition in
       let c₃ = ap (λ (h : Header). countOff (h .n) (h .m) (h .p) (h .e)) is ∙ counts in
-      let c₄ = ap misplaced is ∙ without-gaps (headerOf plan) in
+      let c₄ = ap misplaced is ∙ without-gaps (headerOf plan .edition) (planCounts (headerOf plan)) in
       let c₅ = starts-fit (parsed bytes) W A in
       let c₆ = lines-fit (parsed bytes) W A in
       passed-first (planChecks bytes) (c₁, (c₂, (c₃, (c₄, (c₅, (c₆, (lines-once (parsed bytes) W A, tt)))))))

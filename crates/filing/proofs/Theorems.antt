@@ -12,8 +12,8 @@ use Rattle.plan.specs.Bytes.{parsed, asked, WellFormed, planCounts}
 use Rattle.plan.proofs.Asked.{refused-passing}
 use Rattle.plan.proofs.Refusals.{asked-proper}
 use Rattle.plan.proofs.Readings.{loaded-counts}
-use Rattle.filing.specs.declared.Written.{Written}
-use Rattle.filing.specs.declared.Written.the-variants.{Bytes, Refused}
+use Rattle.filing.specs.declared.Writing.{Writing}
+use Rattle.filing.specs.declared.Writing.the-variants.{Bytes, Refused}
 use Rattle.filing.specs.Filed.{filed}
 use Rattle.filing.specs.Writing.{writeRefusal, shortFiled, Writes}
 use Rattle.filing.specs.Theorems.{SameParts, Theorems}
@@ -37,7 +37,7 @@ module _ {plan bytes : List ℕ} (f : FormOf plan bytes) where
   filed-again : filed bytes ≡ bytes
   filed-again = filed-same bytes plan n-kept m-kept (f .parts) ∙ sym (f .is)
 
-  written-again : (a : Written) (old out : List ℕ) → Writes bytes a old out → length bytes ≤ length old
+  written-again : (a : Writing) (old out : List ℕ) → Writes bytes a old out → length bytes ≤ length old
       → (a ≡ Bytes (length bytes)) × (out ≡ atFront bytes old)
   written-again (Bytes count) old out (_, (c, o)) h =
       (ap Bytes (c ∙ ap length filed-again), o ∙ ap (λ (b : List ℕ). atFront b old) filed-again)

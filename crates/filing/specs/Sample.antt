@@ -6,8 +6,8 @@ use mathlib.Core.List.{List, [], _∷_, _++_}
 use Rattle.filing.specs.Filed.{filed}
 
 -- The header, then a gap, the lines backwards, a gap, the starts backwards, a gap.
-abbrev pub drawn : List ℕ
-drawn =
+abbrev pub drawnOtherwise : List ℕ
+drawnOtherwise =
     (1 ∷ 0 ∷ 3 ∷ 0 ∷ 2 ∷ 0 ∷ 2 ∷ 0 ∷ 4 ∷ 0 ∷ 30 ∷ 0 ∷ 17 ∷ 0 ∷ 35 ∷ 0 ∷ [])
     ++ (99 ∷ [])
     ++ (2 ∷ 1 ∷ 2 ∷ 1 ∷ 1 ∷ 0 ∷ 1 ∷ 0 ∷ 2 ∷ 0 ∷ 0 ∷ 1 ∷ [])
@@ -23,4 +23,4 @@ inItsForm =
     ++ (0 ∷ 0 ∷ 1 ∷ 1 ∷ 0 ∷ 2 ∷ 1 ∷ 1 ∷ 0 ∷ 2 ∷ 1 ∷ 2 ∷ [])
 
 abbrev pub SampleFiled : Type 0
-SampleFiled = filed drawn ≡ inItsForm
+SampleFiled = filed drawnOtherwise ≡ inItsForm

@@ -7,12 +7,13 @@ use mathlib.Core.List.{List}
 use lib.ListN.{length, take}
 use Rattle.refusals.specs.Outcomes.{answered}
 use Rattle.slices.specs.Copying.{atFront}
-use Rattle.plan.specs.Plan.{Line, Plan}
-use Rattle.plan.specs.Bytes.{headerOf, lineWidth, parsed, meaning, planCounts, reading}
+use Rattle.plan.specs.declared.Line.{Line}
+use Rattle.plan.specs.Plan.{Plan, isStart, isLine}
+use Rattle.plan.specs.Bytes.{headerOf, lineWidth, parsed, meaning, PlanCounts, planCounts, reading}
 use Rattle.plan.specs.declared.Header.{Header}
-use Rattle.filing.specs.declared.Written.{Written}
-use Rattle.filing.specs.declared.Written.the-variants.{Bytes}
-use Rattle.filing.specs.Filed.{isStart, isLine, maxWritten}
+use Rattle.filing.specs.declared.Writing.{Writing}
+use Rattle.filing.specs.declared.Writing.the-variants.{Bytes}
+use Rattle.filing.specs.Filed.{maxWritten}
 use Rattle.filing.specs.Writing.{Writes}
 
 -- These bytes were written for the plan: as many as were answered, at the front of what was lent.
@@ -23,17 +24,17 @@ pub record WrittenFor (plan bytes : List ℕ) : Type 0 where
   pub writes : Writes plan (Bytes count) old out
   pub are : bytes ≡ take count out
 
--- The header of the form: edition and counts as they were, starts at 16, lines directly after them, and no more.
-abbrev pub headerInOrder : Header → Header
-headerInOrder h = record {
-  edition = h .edition;
-  n = h .n;
-  m = h .m;
-  p = h .p;
-  e = h .e;
+-- The header of the form: starts at 16, lines directly after them, and no more.
+abbrev pub headerInOrder : ℕ → PlanCounts → Header
+headerInOrder edition c = record {
+  edition = edition;
+  n = c .n;
+  m = c .m;
+  p = c .p;
+  e = c .e;
   starts = 16;
-  lines = 16 + h .p;
-  total = 16 + h .p + lineWidth * h .e;
+  lines = 16 + c .p;
+  total = 16 + c .p + lineWidth * c .e;
 }
 
 -- One line stands before another: by from, then letter (code), then to.
@@ -60,14 +61,14 @@ pub record Theorems : Type 0 where
   pub parts : (plan bytes : List ℕ) → WrittenFor plan bytes → SameParts (parsed bytes) (parsed plan)
   -- each once and in order,
   pub order : (plan bytes : List ℕ) → WrittenFor plan bytes → Ascends (parsed bytes)
-  -- and no gap: the header says where they stand, and the bytes end with them.
+  -- and no gap: edition and counts are as they were, the header says where the parts stand, and the bytes end with them.
   pub header : (plan bytes : List ℕ) → WrittenFor plan bytes
-      → (headerOf bytes ≡ headerInOrder (headerOf plan)) × (length bytes ≡ headerOf bytes .total)
+      → (headerOf bytes ≡ headerInOrder (headerOf plan .edition) (planCounts (headerOf plan))) × (length bytes ≡ headerOf bytes .total)
   pub most : (plan bytes : List ℕ) → WrittenFor plan bytes → length bytes ≤ maxWritten
   -- Equal n, m, starts and lines give equal bytes, different ones different bytes.
   pub equal : (plan bytes plan′ bytes′ : List ℕ) → WrittenFor plan bytes → WrittenFor plan′ bytes′
       → (bytes ≡ bytes′)
       ↔ ((parsed plan .n ≡ parsed plan′ .n) × (parsed plan .m ≡ parsed plan′ .m) × SameParts (parsed plan) (parsed plan′))
   -- Writing what was written gives the same bytes, wherever there is room for them.
-  pub again : (plan bytes : List ℕ) → WrittenFor plan bytes → (a : Written) (old out : List ℕ) → Writes bytes a old out
+  pub again : (plan bytes : List ℕ) → WrittenFor plan bytes → (a : Writing) (old out : List ℕ) → Writes bytes a old out
       → length bytes ≤ length old → (a ≡ Bytes (length bytes)) × (out ≡ atFront bytes old)

@@ -10,8 +10,8 @@ use Rattle.refusals.specs.Outcomes.{Outcome, refused, answered, Gives}
 use Rattle.slices.specs.Copying.{atFront}
 use Rattle.plan.specs.Asked.{refusalWith}
 use Rattle.plan.specs.Bytes.{asked}
-use Rattle.filing.specs.declared.Written.{Written}
-use Rattle.filing.specs.declared.Written.the-variants.{Bytes, Refused}
+use Rattle.filing.specs.declared.Writing.{Writing}
+use Rattle.filing.specs.declared.Writing.the-variants.{Bytes, Refused}
 use Rattle.filing.specs.Filed.{filed}
 
 -- 9: fewer bytes are lent than the form has.
@@ -23,12 +23,12 @@ abbrev pub writeRefusal : List ℕ → ℕ → ℕ
 writeRefusal plan size = refusalWith (asked plan) (shortFiled plan size)
 
 -- What writing answers: how many bytes are written.
-abbrev pub outcomeOfWritten : Written → Outcome ℕ
-outcomeOfWritten (Bytes count) = answered count
-outcomeOfWritten (Refused r) = refused r
+abbrev pub outcomeOfWriting : Writing → Outcome ℕ
+outcomeOfWriting (Bytes count) = answered count
+outcomeOfWriting (Refused r) = refused r
 
 -- What writing gives: the form at the front of the lent bytes, which keep their rest.
-abbrev pub Writes : List ℕ → Written → List ℕ → List ℕ → Type 0
+abbrev pub Writes : List ℕ → Writing → List ℕ → List ℕ → Type 0
 Writes plan a old out =
     Gives (writeRefusal plan (length old)) (out ≡ old) (λ count. (count ≡ length (filed plan)) × (out ≡ atFront (filed plan) old))
-    (outcomeOfWritten a)
+    (outcomeOfWriting a)

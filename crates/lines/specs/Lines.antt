@@ -1,11 +1,9 @@
 -- The report's lines as bytes (document 01, The report). A line ends in a line feed.
 -- Assumes nothing.
-use Prim.Native.Nat.{ℕ, zero, suc, _+_, _/_, _%_, _≤_}
+use Prim.Native.Nat.{ℕ, zero, suc, _+_, _/_, _%_}
 use mathlib.Core.Bool.{Bool, cond}
-use mathlib.Core.Path.{_≡_}
 use mathlib.Core.List.{List, [], _∷_, _++_}
 use lib.Dec.{ltb}
-use lib.ListN.{length}
 use Rattle.slices.specs.Appending.{each}
 use Rattle.bitset.specs.Numbers.{has}
 use Rattle.refusals.specs.declared.Group.{Group}

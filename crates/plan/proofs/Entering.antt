@@ -23,9 +23,11 @@ use Rattle.semiautomata.specs.Sizes.{maxSets}
 use Rattle.semiautomata.specs.Successors.{place, Blank}
 use Rattle.semiautomata.proofs.Successors.{place-lt}
 use Rattle.semiautomata.proofs.Places.{size-le, place-same}
-use Rattle.plan.specs.Plan.{Line, Plan, says, semiautomaton, twice, startHigh, startOff, lineFits}
+use Rattle.plan.specs.declared.Line.{Line}
+use Rattle.plan.specs.Plan.{Plan, says, semiautomaton, twice, startHigh, startOff, lineFits}
 use Rattle.plan.specs.inner.Steps.{StartsEntered, LinesEntered}
 use Rattle.plan.proofs.Tests.{not-and, not-ltb}
+use Rattle.plan.proofs.Plan.{says-is}
 
 -- the plan with the first i of its starts, or of its lines
 abbrev pub startsTo : ℕ → Plan → Plan
@@ -85,13 +87,6 @@ lines-none P b = record {
   twice-is = λ _. refl;
 }
 
--- what a line says is its numbers
-says-is : (l : Line) (q a t : ℕ) → says l q a t ≡ true → (l .from ≡ q) × (l .letter ≡ a) × (l .to ≡ t)
-says-is l q a t d =
-    let (x, d) = and-out (eqb (l .from) q) _ d in
-    let (y, z) = and-out (eqb (l .letter) a) _ d in
-    (eqb-true (l .from) q x, eqb-true (l .letter) a y, eqb-true (l .to) t z)
-
 -- the loop's test of a line's numbers, and the set with a line in it
 abbrev pub offTest : Plan → Line → Bool
 offTest P l = (leb (P .n) (l .from) || leb (P .m) (l .letter)) || leb (P .n) (l .to)
@@ -117,7 +112,7 @@ module _ (P : Plan) (states : P .n ≤ 64) (letters : P .m ≤ 32) {i : ℕ} {se
   l = P .line i
 
   -- a line with a number off is not entered
-  pub lines-off : offTest P l ≡ true → LinesEntered (linesTo (i + 1) P) sets (record { off = true; twice = again })
+  lines-off : offTest P l ≡ true → LinesEntered (linesTo (i + 1) P) sets (record { off = true; twice = again })
   unfolding any
   lines-off e = rw add-one (record {
     size = w .size;
@@ -140,7 +135,7 @@ module _ (P : Plan) (states : P .n ≤ 64) (letters : P .m ≤ 32) {i : ℕ} {se
     among = place-lt (P .n) (P .m) _ _ (fits .0) (fits .1)
 
     -- the place is one of the sets, and the state one of its bits
-    pub place-in : (linePlace P l < 2048) × (l .to < 64)
+    place-in : (linePlace P l < 2048) × (l .to < 64)
     place-in = (lt-of-lt-of-le among (size-le states letters), lt-of-lt-of-le (fits .2) states)
 
     inside : linePlace P l < length sets
@@ -172,7 +167,7 @@ module _ (P : Plan) (states : P .n ≤ 64) (letters : P .m ≤ 32) {i : ℕ} {se
           rw (getD-set-other sets _ (place (P .m) q a) _ 0 e, w .edges q a t h g k, other, or-false)
     ]
 
-    pub lines-next : LinesEntered (linesTo (i + 1) P) (withLine P l sets)
+    lines-next : LinesEntered (linesTo (i + 1) P) (withLine P l sets)
         (record { off = off; twice = again || eqb (bitAnd (getD sets (linePlace P l) 0 / 2 ^ l .to) 1) 1 })
     unfolding any
     lines-next = rw add-one (record {
@@ -182,3 +177,17 @@ module _ (P : Plan) (states : P .n ≤ 64) (letters : P .m ≤ 32) {i : ℕ} {se
       off-is = rw (w .off-is, sym (off-test P l) ∙ e, or-false);
       twice-is = λ z. rw (w .twice-is z, has-test, w .edges _ _ (l .to) (fits .0) (fits .1) (fits .2));
     })
+
+-- .. and of the line as it is read
+module _ (P : Plan) (states : P .n ≤ 64) (letters : P .m ≤ 32) {i : ℕ} {sets : List ℕ} {off again : Bool}
+    (w : LinesEntered (linesTo i P) sets (record { off = off; twice = again })) {l : Line} (is : l ≡ P .line i) where
+  pub read-off : offTest P l ≡ true → LinesEntered (linesTo (i + 1) P) sets (record { off = true; twice = again })
+  read-off e = lines-off P states letters w (rw is at e)
+
+  module _ (e : offTest P l ≡ false) where
+    pub read-place : (linePlace P l < 2048) × (l .to < 64)
+    read-place = rw is (place-in P states letters w (rw is at e))
+
+    pub read-next : LinesEntered (linesTo (i + 1) P) (withLine P l sets)
+        (record { off = off; twice = again || eqb (bitAnd (getD sets (linePlace P l) 0 / 2 ^ l .to) 1) 1 })
+    read-next = rw is (lines-next P states letters w (rw is at e))

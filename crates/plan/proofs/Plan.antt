@@ -1,15 +1,32 @@
--- A plan whose starts and lines have their numbers below their counts means a semiautomaton with nothing outside its states and letters.
+-- What lines say, and that a plan whose starts and lines have their numbers below their counts means a semiautomaton with nothing
+-- outside its states and letters.
 -- Assumes nothing.
 use Prim.Native.Nat.{ℕ, _<_}
 use mathlib.Core.Bool.{true, false, not}
-use mathlib.Core.Path.{_≡_}
+use mathlib.Core.Path.{_≡_, refl}
 use native.Mathlib.Omega.{arith}
 use lib.Dec.{eqb, ltb, leb}
-use borrow.Author.Tests.{ltb-true, leb-false, eqb-true, not-false}
+use borrow.Author.Tests.{ltb-true, leb-false, eqb-true, eq-eqb, not-false}
 use Rattle.bitset.proofs.Tests.{and-out}
 use Rattle.bitset.proofs.Below.{with-any, any-not}
 use Rattle.semiautomata.specs.Semiautomaton.{Within}
-use Rattle.plan.specs.Plan.{Plan, startHigh, lineOff, lineFits, semiautomaton}
+use Rattle.plan.specs.declared.Line.{Line}
+use Rattle.plan.specs.Plan.{Plan, says, sameLine, startHigh, lineOff, lineFits, semiautomaton}
+
+-- what a line says is its numbers
+pub says-is : (l : Line) (q a t : ℕ) → says l q a t ≡ true → (l .from ≡ q) × (l .letter ≡ a) × (l .to ≡ t)
+says-is l q a t d =
+    let (x, d) = and-out (eqb (l .from) q) _ d in
+    let (y, z) = and-out (eqb (l .letter) a) _ d in
+    (eqb-true (l .from) q x, eqb-true (l .letter) a y, eqb-true (l .to) t z)
+
+-- a line is the same as itself, and as no other
+pub line-same : (l : Line) → sameLine l l ≡ true
+line-same l = rw (eq-eqb (l .from) _ refl, eq-eqb (l .letter) _ refl, eq-eqb (l .to) _ refl)
+
+pub same-line : (l k : Line) → sameLine l k ≡ true → l ≡ k
+same-line l k e = let (from, letter, to) = says-is l (k .from) (k .letter) (k .to) e in
+    λ i. record { from = from i; letter = letter i; to = to i }
 
 module _ (P : Plan) (starts : startHigh P ≡ false) (lines : lineOff P ≡ false) where
   start-lt : (i : ℕ) → i < P .p → P .start i < P .n
@@ -23,9 +40,8 @@ module _ (P : Plan) (starts : startHigh P ≡ false) (lines : lineOff P ≡ fals
       let l = P .line i in
       let (p₁, p′) = and-out (ltb (l .from) (P .n)) _ (line-fits i h) in
       let (p₂, p₃) = and-out (ltb (l .letter) (P .m)) _ p′ in
-      let (q₁, q′) = and-out (eqb (l .from) s) _ q in
-      let (q₂, q₃) = and-out (eqb (l .letter) a) _ q′ in
-      omega (arith, ltb-true, eqb-true)
+      let (from, letter, to) = says-is l s a t q in
+      omega (arith, ltb-true)
 
   pub plan-within : Within (semiautomaton P)
   plan-within = record {

@@ -12,20 +12,15 @@ use borrow.Author.Tests.{lt-ltb, ltb-true, ltb-false, leb-true, eqb-true, eqb-fa
 use Rattle.bitset.proofs.Tests.{and-out, decided, or-none}
 use Rattle.semiautomata.specs.Semiautomaton.{Within}
 use Rattle.refusals.specs.Checks.{within, firstOf, Numbered}
-use Rattle.refusals.proofs.First.{first-le, first-behind, first-before}
+use Rattle.refusals.proofs.First.{Passed, first-le, first-passed, first-behind, first-before}
 use Rattle.plan.specs.declared.Header.{Header}
 use Rattle.plan.specs.Plan.{countOff, startHigh, startOff, lineOff, lineTwice}
 use Rattle.semiautomata.specs.Sizes.{Sized}
 use Rattle.plan.specs.Asked.{refusalOf, Proper}
 use Rattle.plan.specs.Bytes.{headerOf, lineWidth, parsed, meaning, placed, misplaced, headerChecks, partChecks, planChecks}
 use Rattle.plan.specs.Bytes.{asked, refusal, WellFormed}
-use Rattle.plan.specs.inner.Steps.{Sound}
+use Rattle.plan.specs.Loading.{Sound}
 use Rattle.plan.proofs.Plan.{plan-within}
-
--- none of a list applies: not the first, and none of the rest
-none-next : (t : Bool) (k rest : ℕ) → cond t (suc k) rest ≡ 0 → (t ≡ false) × (rest ≡ 0)
-none-next true k rest e = absurd (omega arith)
-none-next false k rest e = (refl, e)
 
 -- WHERE 1 TO 4 DO NOT APPLY
 
@@ -54,13 +49,9 @@ in-range n m p e off =
       e-high = ltb-false _ _ d;
     }
 
-module _ (plan : List ℕ) (h : Header) (clear : firstOf (headerChecks (length plan) h) ≡ 0) where
-  pub header-clear : InRange (h .n) (h .m) (h .p) (h .e) × Sound plan h
-  header-clear =
-      let (a, e) = none-next (ltb (length plan) 16 || not (eqb (h .total) (length plan))) 0 _ clear in
-      let (_, e) = none-next (not (eqb (h .edition) 1)) 1 _ e in
-      let (counts, e) = none-next (countOff (h .n) (h .m) (h .p) (h .e)) 2 _ e in
-      let (parts, _) = none-next (misplaced h) 3 _ e in
+module _ (plan : List ℕ) (h : Header) where
+  header-passed : Passed (headerChecks (length plan) h) → InRange (h .n) (h .m) (h .p) (h .e) × Sound plan h
+  header-passed (a, (_, (counts, (parts, _)))) =
       let total : h .total ≡ length plan = eqb-true _ _ (not-false _ (or-none (ltb (length plan) 16) _ a .1)) in
       let (s, parts) = or-none (not (placed (h .total) (h .starts) (h .p))) _ parts in
       let (l, _) = or-none (not (placed (h .total) (h .lines) (lineWidth * h .e))) _ parts in
@@ -73,6 +64,9 @@ module _ (plan : List ℕ) (h : Header) (clear : firstOf (headerChecks (length p
           lines-end = rw (← total) (leb-true _ _ (and-out (leb 16 (h .lines)) _ (not-false _ l) .1));
         },
       )
+
+  pub header-clear : firstOf (headerChecks (length plan) h) ≡ 0 → InRange (h .n) (h .m) (h .p) (h .e) × Sound plan h
+  header-clear clear = header-passed (first-passed 4 (headerChecks (length plan) h) refl clear)
 
 -- THE FIRST THAT APPLIES
 
@@ -102,31 +96,29 @@ module _ (plan : List ℕ) where
 -- WHERE NONE APPLIES
 
 module _ (plan : List ℕ) (w : WellFormed plan) where
-  clear : firstOf (headerChecks (length plan) (headerOf plan)) ≡ 0
-  clear = elim (decided (eqb (first plan) 0)) [
-    | inl e ↦ eqb-true _ _ e
-    | inr e ↦ refused-header plan (eqb-false _ _ e) ∙ w
-  ]
+  pub well-formed-clear : Passed (planChecks plan)
+  unfolding refusalOf
+  well-formed-clear = first-passed 7 (planChecks plan) (plan-numbered plan) w
+
+  in-header : InRange (headerOf plan .n) (headerOf plan .m) (headerOf plan .p) (headerOf plan .e) × Sound plan (headerOf plan)
+  unfolding planChecks
+  in-header = let (a, (b, (c, (d, _)))) = well-formed-clear in header-passed plan (headerOf plan) (a, (b, (c, (d, tt))))
 
   pub well-formed-range : InRange (headerOf plan .n) (headerOf plan .m) (headerOf plan .p) (headerOf plan .e)
-  well-formed-range = header-clear plan (headerOf plan) clear .0
+  well-formed-range = in-header .0
 
-  -- the bytes have a header, and the parts lie within them
-  pub well-formed-long : 16 ≤ length plan
-  well-formed-long = elim (decided (ltb (length plan) 16)) [
-    | inl e ↦ absurd (omega (arith, refused-short plan (ltb-true _ _ e)))
-    | inr e ↦ ltb-false _ _ e
-  ]
-
+  -- the parts lie within the bytes
   pub well-formed-sound : Sound plan (headerOf plan)
-  well-formed-sound = header-clear plan (headerOf plan) clear .1
+  well-formed-sound = in-header .1
+
+  pub well-formed-long : 16 ≤ length plan
+  unfolding planChecks
+  well-formed-long = let (a, _) = well-formed-clear in ltb-false _ _ (or-none (ltb (length plan) 16) _ a .0)
 
   -- no start is off, no line is off, no line stands twice
   pub well-formed-parts : (startOff (parsed plan) ≡ false) × (lineOff (parsed plan) ≡ false) × (lineTwice (parsed plan) ≡ false)
-  well-formed-parts =
-      let (starts, e) = none-next (startOff (parsed plan)) 4 _ (refused-parts plan clear ∙ w) in
-      let (lines, e) = none-next (lineOff (parsed plan)) 5 _ e in
-      (starts, lines, none-next (lineTwice (parsed plan)) 6 _ e .0)
+  unfolding planChecks
+  well-formed-parts = let (_, (_, (_, (_, (starts, (lines, (again, _))))))) = well-formed-clear in (starts, lines, again)
 
   pub well-formed-within : Within (meaning plan)
   well-formed-within =

@@ -9,9 +9,10 @@ use Rattle.semiautomata.specs.Semiautomaton.{Semiautomaton}
 use Rattle.endian.specs.Numbers.{numberAt}
 use Rattle.refusals.specs.Checks.{Check}
 use Rattle.refusals.specs.Outcomes.{Outcome, refused, answered}
-use Rattle.plan.specs.Plan.{Line, Plan, semiautomaton, countOff, startOff, lineOff, lineTwice}
+use Rattle.plan.specs.Plan.{Plan, semiautomaton, countOff, startOff, lineOff, lineTwice}
 use Rattle.plan.specs.Asked.{Asked, refusalOf, Passes}
 use Rattle.plan.specs.declared.Header.{Header}
+use Rattle.plan.specs.declared.Line.{Line}
 use Rattle.plan.specs.declared.Reading.{Reading}
 use Rattle.plan.specs.declared.Reading.the-variants.{Counts, Refused}
 

@@ -1,6 +1,6 @@
--- What loading promises: the refusal, or the counts and the successor sets of what is meant.
+-- What loading promises: the refusal, or the counts and the successor sets of what is meant; and what looking at the parts needs.
 -- Assumes nothing.
-use Prim.Native.Nat.{ℕ, _^_, _<_}
+use Prim.Native.Nat.{ℕ, _+_, _*_, _^_, _≤_, _<_}
 use mathlib.Core.Path.{_≡_}
 use mathlib.Core.List.{List}
 use lib.ListN.{length}
@@ -10,7 +10,15 @@ use Rattle.plan.specs.declared.Loaded.{Loaded}
 use Rattle.plan.specs.declared.Loaded.the-variants.{Plan, Refused}
 use Rattle.plan.specs.Asked.{Asked, refusalOf, Passes}
 use Rattle.semiautomata.specs.Sizes.{maxSets}
-use Rattle.plan.specs.Bytes.{PlanCounts}
+use Rattle.plan.specs.declared.Header.{Header}
+use Rattle.plan.specs.Bytes.{lineWidth, PlanCounts}
+
+-- What looking at the parts needs of refusals 1 to 4: few states and letters, and parts that lie within the bytes.
+pub record Sound (plan : List ℕ) (h : Header) : Type 0 where
+  pub states : h .n ≤ 64
+  pub letters : h .m ≤ 32
+  pub starts-end : h .starts + h .p ≤ length plan
+  pub lines-end : h .lines + lineWidth * h .e ≤ length plan
 
 -- The numbers hold S: its counts, its initial states and its successor sets.
 pub record Holds (S : Semiautomaton) (n m starts : ℕ) (sets : List ℕ) : Type 0 where

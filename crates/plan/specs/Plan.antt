@@ -7,12 +7,11 @@ use Rattle.bitset.specs.Sets.{any}
 use Rattle.semiautomata.specs.Semiautomaton.{Semiautomaton}
 use Rattle.semiautomata.specs.Sizes.{maxStates, maxLetters, maxLines}
 use Rattle.refusals.specs.Checks.{within}
+use Rattle.plan.specs.declared.Line.{Line}
 
--- A line: from, letter (code), to.
-pub record Line : Type 0 where
-  pub from : ℕ
-  pub letter : ℕ
-  pub to : ℕ
+-- The line from, letter (code), to.
+abbrev pub line : ℕ → ℕ → ℕ → Line
+line from letter to = record { from = from; letter = letter; to = to }
 
 -- The counts of states and letters, of starts and of lines, and the start and the line at each place of their lists.
 pub record Plan : Type 0 where
@@ -31,14 +30,16 @@ says l s a t = eqb (l .from) s && (eqb (l .letter) a && eqb (l .to) t)
 abbrev pub sameLine : Line → Line → Bool
 sameLine l k = says l (k .from) (k .letter) (k .to)
 
+-- s is one of the starts; l is one of the lines.
+abbrev pub isStart : Plan → ℕ → Bool
+isStart P s = any (P .p) (λ i. eqb (P .start i) s)
+
+abbrev pub isLine : Plan → Line → Bool
+isLine P l = any (P .e) (λ i. sameLine (P .line i) l)
+
 -- A state is initial if some start is it; there is an edge if some line says so.
 abbrev pub semiautomaton : Plan → Semiautomaton
-semiautomaton P = record {
-  n = P .n;
-  m = P .m;
-  initial = λ s. any (P .p) (λ i. eqb (P .start i) s);
-  edge = λ s a t. any (P .e) (λ i. says (P .line i) s a t);
-}
+semiautomaton P = record { n = P .n; m = P .m; initial = isStart P; edge = λ s a t. isLine P (line s a t) }
 
 -- WHAT MAKES A PLAN UNFIT, by the number of its refusal
 

@@ -1,10 +1,10 @@
--- A plan written down as document 01 lists it, and its bytes.
+-- A plan as lists, as document 01 writes one down, and its bytes without gaps.
 -- Assumes nothing.
 use Prim.Native.Nat.{ℕ, _+_, _*_}
 use mathlib.Core.List.{List, [], _∷_, _++_}
 use lib.ListN.{length}
 use Rattle.endian.specs.Numbers.{bytesOf}
-use Rattle.plan.specs.Plan.{Line}
+use Rattle.plan.specs.declared.Line.{Line}
 use Rattle.plan.specs.Bytes.{lineWidth}
 
 -- n and m, the starts and the lines in order.
@@ -14,9 +14,6 @@ pub record Listed : Type 0 where
   pub starts : List ℕ
   pub lines : List Line
 
-abbrev pub line : ℕ → ℕ → ℕ → Line
-line from letter to = record { from = from; letter = letter; to = to }
-
 abbrev pub lineBytes : Line → List ℕ
 lineBytes l = l .from ∷ l .letter ∷ l .to ∷ []
 
@@ -25,9 +22,10 @@ abbrev pub joined : {A : Type 0} → (A → List ℕ) → List A → List ℕ
 joined f [] = []
 joined f (x ∷ xs) = f x ++ joined f xs
 
--- The bytes of edition 1 without gaps: the header's eight numbers, the starts, the lines.
+-- The header of edition 1 without gaps: its eight numbers.
+abbrev pub headerBytes : ℕ → ℕ → ℕ → ℕ → List ℕ
+headerBytes n m p e = joined (bytesOf 2) (1 ∷ n ∷ m ∷ p ∷ e ∷ 16 ∷ (16 + p) ∷ (16 + p + lineWidth * e) ∷ [])
+
+-- The bytes of edition 1 without gaps: the header, the starts, the lines.
 abbrev pub planBytes : Listed → List ℕ
-planBytes P =
-    let p = length (P .starts) in
-    let e = length (P .lines) in
-    joined (bytesOf 2) (1 ∷ P .n ∷ P .m ∷ p ∷ e ∷ 16 ∷ (16 + p) ∷ (16 + p + lineWidth * e) ∷ []) ++ P .starts ++ joined lineBytes (P .lines)
+planBytes P = headerBytes (P .n) (P .m) (length (P .starts)) (length (P .lines)) ++ P .starts ++ joined lineBytes (P .lines)

@@ -1,5 +1,6 @@
 // Plan bytes (document 01): one pass over them judges refusals 1 to 7 and loads what they mean as successor sets.
-// Nobody above looks at bytes: `load` gives the semiautomaton that a well-formed plan means, and `read` its counts alone.
+// Nobody above looks at bytes: `load` gives the semiautomaton that a well-formed plan means, `read` its counts alone; for those who need
+// the lists themselves, `header_of`, `starts_of` and `line_of` give them.
 ghost use mathlib.Core.Path.{_≡_};
 ghost use mathlib.Core.Bool.{cond};
 ghost use Prim.Native.Nat.{_+_, _≤_, _<_};
@@ -11,8 +12,8 @@ ghost use Rattle.plan.specs.Bytes.{planCounts, reading};
 ghost use Rattle.bitset.specs.Numbers.{setOf};
 ghost use Rattle.semiautomata.specs.Sizes.{maxSets};
 ghost use Rattle.semiautomata.specs.Successors.{Blank};
-ghost use Rattle.plan.specs.Loading.{Loads};
-ghost use Rattle.plan.specs.inner.Steps.{Sound, StartsEntered, LinesEntered};
+ghost use Rattle.plan.specs.Loading.{Sound, Loads};
+ghost use Rattle.plan.specs.inner.Steps.{StartsEntered, LinesEntered};
 use semiautomata::MAX_LETTERS;
 use semiautomata::MAX_LINES;
 use semiautomata::MAX_STATES;
@@ -30,6 +31,13 @@ pub struct Header {
     pub starts: u16,
     pub lines: u16,
     pub total: u16,
+}
+
+// A line: from, letter (code), to.
+pub struct Line {
+    pub from: u8,
+    pub letter: u8,
+    pub to: u8,
 }
 
 // What reading answers: the counts of states, letters, starts and lines, or the lowest refusal that applies.
@@ -148,6 +156,19 @@ fn enter_starts(plan: &[u8], h: Header) -> Starts
     Starts { set, off }
 }
 
+// The line at a place of the list.
+pub fn line_of(plan: &[u8], h: Header, i: usize) -> Line
+    requires { ⌜ Sound (now plan) h × (i < h .e) ⌝ }
+    ensures { λ r. ⌜ r ≡ parsedBy h (now (plan .entry)) .line i ⌝ }
+{
+    let at = h.lines as usize + LINE_WIDTH * i;
+    Line {
+        from: plan[at],
+        letter: plan[at + 1],
+        to: plan[at + 2],
+    }
+}
+
 // Whether refusal 6 applies; if not, whether 7 does.
 struct Lines {
     off: bool,
@@ -165,10 +186,10 @@ fn enter_lines(plan: &[u8], h: Header, sets: &mut [u64; semiautomata::MAX_SETS])
     let mut off = false;
     let mut twice = false;
     for i in 0..e {
-        let at = h.lines as usize + LINE_WIDTH * i;
-        let from = plan[at] as usize;
-        let letter = plan[at + 1] as usize;
-        let to = plan[at + 2] as usize;
+        let line = line_of(plan, h, i);
+        let from = line.from as usize;
+        let letter = line.letter as usize;
+        let to = line.to as usize;
         if (n <= from) | (m <= letter) | (n <= to) {
             off = true;
             continue;

@@ -12,14 +12,14 @@ use Rattle.plan.specs.Bytes.{asked}
 use Rattle.plan.proofs.Refusals.{asked-proper}
 use Rattle.prepare.specs.Preparing.{LooksAhead, asNumber, Draws}
 use Rattle.prepare.proofs.Answers.{small}
-use Rattle.filing.specs.declared.Written.{Written}
-use Rattle.filing.specs.declared.Written.the-variants.{Bytes, Refused}
-use Rattle.filing.specs.Writing.{Writes, outcomeOfWritten}
+use Rattle.filing.specs.declared.Writing.{Writing}
+use Rattle.filing.specs.declared.Writing.the-variants.{Bytes, Refused}
+use Rattle.filing.specs.Writing.{Writes}
 use Rattle.filing.specs.Theorems.{WrittenFor}
 use Rattle.filing.proofs.Form.{written-few}
 use Rattle.numbers.specs.Numbers.{Number, value, refusal as refusal-number}
 use Rattle.numbers.proofs.Answering.{gives-number}
-use Rattle.plan_calls.specs.Promises.{claimOf}
+use Rattle.plan_calls.specs.Promises.{ofWriting, claimOf}
 use Rattle.plan_calls.specs.Theorems.{Theorems}
 use Rattle.plan_calls.proofs.Answering.{asked-numbered, unread-number, short-number, reading-number, prepared-number, counted-number}
 use Rattle.plan_calls.proofs.Answering.{checked-number}
@@ -33,11 +33,11 @@ drawn A P d = rw (d .is) (go (d .outcome) (d .looks-ahead))
     go (answered k) (w, l) = let h = small (P .sized w) k l in value (omega arith)
 
 -- what writing answers, and what it wrote
-written-number : (plan old out : List ℕ) (a : Written) → Writes plan a old out → Number (asNumber (outcomeOfWritten a))
+written-number : (plan old out : List ℕ) (a : Writing) → Writes plan a old out → Number (ofWriting a .first)
 written-number plan old out (Bytes count) w = value (omega (arith, written-few plan old out count w))
 written-number plan old out (Refused r) (e, z, _) = short-number (asked plan) (asked-proper plan) _ e z
 
-written-for : (plan old out : List ℕ) (r : ℕ) (a : Written) → Writes plan a old out → r ≡ asNumber (outcomeOfWritten a) → r < 65536
+written-for : (plan old out : List ℕ) (r : ℕ) (a : Writing) → Writes plan a old out → r ≡ ofWriting a .first → r < 65536
     → WrittenFor plan (take r out)
 written-for plan old out r (Bytes count) w e h = record { count = count; old = old; out = out; writes = w; are = rw e }
 written-for plan old out r (Refused x) w e h = absurd (omega arith)
@@ -53,6 +53,6 @@ theorems r = record {
   drawing = λ plan. drawn (asked plan) (asked-proper plan);
   checking = λ plan claim letters p.
       rw (p .passed .answered) (checked-number (asked plan) (asked-proper plan) (claimOf claim) letters (p .answer) (p .meets));
-  writing = λ plan old out p. rw (p .is) (written-number plan old out (p .answer) (p .meets));
-  written = λ plan old out p. written-for plan old out r (p .answer) (p .meets) (p .is);
+  writing = λ plan old out p. rw (p .passed .answered) (written-number plan old out (p .answer) (p .meets));
+  written = λ plan old out p. written-for plan old out r (p .answer) (p .meets) (p .passed .answered);
 }

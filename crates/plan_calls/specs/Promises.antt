@@ -15,8 +15,8 @@ use Rattle.claim.specs.Checking.{Checks, outcomeOfChecked}
 use Rattle.prepare.specs.declared.Prepared.{Prepared}
 use Rattle.prepare.specs.declared.Prepared.the-variants.{Ready, Refused, Unpredictable}
 use Rattle.prepare.specs.Preparing.{Prepares, CountsTo, outcomeOfPrepared, asNumber}
-use Rattle.filing.specs.declared.Written.{Written}
-use Rattle.filing.specs.Writing.{Writes, outcomeOfWritten}
+use Rattle.filing.specs.declared.Writing.{Writing}
+use Rattle.filing.specs.Writing.{Writes, outcomeOfWriting}
 use Rattle.numbers.specs.Numbers.{Numbers, valued, inNumbers, Passed, PassesOn}
 
 -- THE NUMBERS OF EACH OUTCOME
@@ -37,6 +37,10 @@ ofPrepared a = valued (asNumber (outcomeOfPrepared a)) (evidenceOf a)
 -- 1 for yes, 0 for no.
 abbrev pub ofChecked : Checked → Numbers
 ofChecked a = inNumbers (λ yes. valued (one-if yes) []) (outcomeOfChecked a)
+
+-- How many bytes.
+abbrev pub ofWriting : Writing → Numbers
+ofWriting a = inNumbers (λ count. valued count []) (outcomeOfWriting a)
 
 -- THE PROMISES
 
@@ -69,8 +73,7 @@ pub record PassesCheck (A : Asked) (claim letters : List ℕ) (r : ℕ) : Type 0
   pub passed : Passed (ofChecked answer) r [] []
   pub short : length claim < 6 → ¬ (r ≡ 1)
 
--- Writing: how many bytes, or 65,536 plus the refusal.
 pub record PassesWriting (plan : List ℕ) (r : ℕ) (old out : List ℕ) : Type 0 where
-  pub answer : Written
+  pub answer : Writing
   pub meets : Writes plan answer old out
-  pub is : r ≡ asNumber (outcomeOfWritten answer)
+  pub passed : Passed (ofWriting answer) r [] []

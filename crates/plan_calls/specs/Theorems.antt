@@ -1,5 +1,5 @@
 -- What follows of the promises on plans for C: whatever a call is lent, it answers a value below 65,536, or 65,536 plus the number of a
--- refusal. proofs/Theorems.antt has the proofs.
+-- refusal; and what writing wrote is what the theorems of crate filing speak of. proofs/Theorems.antt has the proofs.
 -- Assumes nothing.
 use Prim.Native.Nat.{ℕ, _<_}
 use mathlib.Core.List.{List}

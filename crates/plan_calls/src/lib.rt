@@ -1,6 +1,6 @@
 // The calls on plan bytes for C, over plain numbers and lent slices: reading, preparing, the count call, the drawing program's entry, the
-// check of a claim and writing. Where a slice for further values has too few places for the most that a call may have to put there, the call is
-// refused with 9 before anything is written.
+// check of a claim, writing. Where a slice for further values has too few places for the most that a call may have to put there, the
+// call is refused with 9 before anything is written.
 ghost use mathlib.Core.Path.{_≡_};
 ghost use Prim.Native.Nat.{_≤_};
 ghost use lib.ListN.{length, getD};
@@ -11,7 +11,7 @@ ghost use Rattle.plan_calls.specs.Promises.{ofPrepared, claimOf, PassesR
 ghost use Rattle.plan_calls.specs.Promises.{PassesWriting};
 ghost use Rattle.plan_calls.specs.inner.Sizes.{Fit32};
 use claim::Checked;
-use filing::Written;
+use filing::Writing;
 use lookahead::Evidence;
 use numbers::REFUSED;
 use plan::Reading;
@@ -147,7 +147,7 @@ pub fn write(plan: &[u8], out: &mut [u8]) -> u32
 {
     let written = filing::write(plan, out);
     match written {
-        Written::Bytes(count) => count as u32,
-        Written::Refused(r) => REFUSED + r as u32,
+        Writing::Bytes(count) => count as u32,
+        Writing::Refused(r) => REFUSED + r as u32,
     }
 }

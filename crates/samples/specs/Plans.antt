@@ -7,9 +7,10 @@ use mathlib.Core.List.{List, [], _∷_, map}
 use Rattle.semiautomata.specs.Lists.{range}
 use Rattle.semiautomata.specs.Semiautomaton.{Semiautomaton}
 use Rattle.semiautomata.specs.Predictability.{Lookahead, Unpredictable}
-use Rattle.plan.specs.Plan.{Line, Plan}
+use Rattle.plan.specs.declared.Line.{Line}
+use Rattle.plan.specs.Plan.{Plan, line}
 use Rattle.plan.specs.Bytes.{parsed, meaning, WellFormed}
-use Rattle.plan.specs.Written.{Listed, line, planBytes}
+use Rattle.plan.specs.Written.{Listed, planBytes}
 
 -- A plan, and its look-ahead, `none` where there is none (15).
 pub record Sample : Type 0 where

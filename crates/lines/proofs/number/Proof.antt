@@ -3,7 +3,7 @@
 use mathlib.Core.Path.{_≡_, _∙_}
 use lib.ListN.{take}
 use Rattle.lines.specs.Lines.{decimal}
-use Rattle.lines.proofs.Lines.{written-digits}
+use Rattle.lines.proofs.Digits.{written-digits}
 use borrow.Author.Needs.{needs}
 use Rattle.lines.proofs.number.Statement.{statement}
 use Rattle.lines.proofs.number.Tie as tie

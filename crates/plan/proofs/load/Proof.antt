@@ -4,7 +4,7 @@ use mathlib.Core.Path.{sym, _∙_}
 use native.Mathlib.Omega.{arith}
 use denote.Ref.{now}
 use borrow.Author.Needs.{needs}
-use Rattle.plan.specs.inner.Steps.{Sound}
+use Rattle.plan.specs.Loading.{Sound}
 use Rattle.plan.proofs.Refusals.{refused-short, header-clear}
 use Rattle.plan.proofs.Loading.{loads-header, loads-refused, loads-plan}
 use Rattle.plan.proofs.load.Statement.{statement}

@@ -1,25 +1,16 @@
 -- What the steps of loading promise each other.
 -- Assumes nothing.
-use Prim.Native.Nat.{ℕ, _+_, _*_, _^_, _≤_, _<_}
+use Prim.Native.Nat.{ℕ, _*_, _^_, _<_}
 use mathlib.Core.Bool.{false}
 use mathlib.Core.Path.{_≡_}
 use mathlib.Core.List.{List}
 use lib.ListN.{length, getD}
 use Rattle.bitset.specs.Numbers.{has, setOf}
 use Rattle.semiautomata.specs.Successors.{setAt}
-use Rattle.plan.specs.declared.Header.{Header}
 use Rattle.plan.specs.declared.Starts.{Starts}
 use Rattle.plan.specs.declared.Lines.{Lines}
 use Rattle.plan.specs.Plan.{Plan, semiautomaton, startOff, lineOff, lineTwice}
 use Rattle.semiautomata.specs.Sizes.{maxSets}
-use Rattle.plan.specs.Bytes.{lineWidth}
-
--- What entering the parts needs of refusals 1 to 4: few states and letters, and parts that lie within the bytes.
-pub record Sound (plan : List ℕ) (h : Header) : Type 0 where
-  pub states : h .n ≤ 64
-  pub letters : h .m ≤ 32
-  pub starts-end : h .starts + h .p ≤ length plan
-  pub lines-end : h .lines + lineWidth * h .e ≤ length plan
 
 -- The starts are entered, those below n, and 5 is found.
 pub record StartsEntered (P : Plan) (r : Starts) : Type 0 where
