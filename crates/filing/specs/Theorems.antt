@@ -64,6 +64,7 @@ pub record Theorems : Type 0 where
   -- and no gap: edition and counts are as they were, the header says where the parts stand, and the bytes end with them.
   pub header : (plan bytes : List ℕ) → WrittenFor plan bytes
       → (headerOf bytes ≡ headerInOrder (headerOf plan .edition) (planCounts (headerOf plan))) × (length bytes ≡ headerOf bytes .total)
+  -- It has no more bytes than the form of the largest plan.
   pub most : (plan bytes : List ℕ) → WrittenFor plan bytes → length bytes ≤ maxWritten
   -- Equal n, m, starts and lines give equal bytes, different ones different bytes.
   pub equal : (plan bytes plan′ bytes′ : List ℕ) → WrittenFor plan bytes → WrittenFor plan′ bytes′
