@@ -4,7 +4,7 @@ use Prim.Native.Nat.{ℕ, zero, suc, _+_, _/_, _%_}
 use mathlib.Core.Bool.{Bool, cond}
 use mathlib.Core.List.{List, [], _∷_, _++_}
 use lib.Dec.{ltb}
-use Rattle.slices.specs.Appending.{each}
+use Rattle.slices.specs.Appending.{passing}
 use Rattle.bitset.specs.Numbers.{has}
 use Rattle.refusals.specs.declared.Group.{Group}
 use Rattle.refusals.specs.declared.Group.the-variants.{Author, Caller, Logger, Nobody}
@@ -91,7 +91,7 @@ resolutionLine position state = field atWord position ++ field stake state ++ li
 
 -- The states below n of a set, ascending, a space before each.
 abbrev pub listed : ℕ → (ℕ → Bool) → List ℕ
-listed n p = each n (λ s. cond (p s) (field space s) [])
+listed n p = passing n p (field space)
 
 -- `open 3 stakes 1 2`: a position that is not resolved, with the set of its possible states as a 64-bit number
 unfoldable pub openLine : ℕ → ℕ → List ℕ

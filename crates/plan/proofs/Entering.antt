@@ -14,10 +14,10 @@ use lib.ListN.{length, getD, set, length-set}
 use lib.Seq.{getD-set-same, getD-set-other}
 use lib.Bits.{bitAnd, bitOr, or-lt}
 use lib.Pow.{pow-lt, pow-pos}
-use borrow.Author.Tests.{lt-ltb, ltb-true, lt-leb, leb-false, eqb-true, eq-eqb}
+use borrow.Author.Tests.{lt-ltb, ltb-true, lt-leb, leb-false, eq-eqb}
 use Rattle.bitset.specs.Sets.{any, single}
 use Rattle.bitset.specs.Numbers.{has, setOf}
-use Rattle.bitset.proofs.Tests.{decided, and-out, not-so, or-none}
+use Rattle.bitset.proofs.Tests.{decided, not-so, or-none}
 use Rattle.bitset.proofs.Bits.{has-or, has-and, has-empty, has-setOf, has-insert, has-test, shl-one, same-members}
 use Rattle.semiautomata.specs.Sizes.{maxSets}
 use Rattle.semiautomata.specs.Successors.{place, Blank}

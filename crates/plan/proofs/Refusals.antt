@@ -1,15 +1,14 @@
 -- Refusals 1 to 7 in their order, and what holds of a plan to which none of them applies.
 -- Assumes nothing.
-use Prim.Native.Nat.{ℕ, suc, _*_, _≤_, _<_}
-use mathlib.Core.Bool.{Bool, true, false, not, cond, _||_}
-use mathlib.Core.Path.{_≡_, refl, sym, _∙_}
-use mathlib.Core.Logic.{inl, inr}
+use Prim.Native.Nat.{ℕ, _*_, _≤_, _<_}
+use mathlib.Core.Bool.{false, not}
+use mathlib.Core.Path.{_≡_, refl, sym}
 use mathlib.Core.List.{List}
 use native.Mathlib.Omega.{arith}
-use lib.Dec.{eqb, ltb, leb}
+use lib.Dec.{ltb, leb}
 use lib.ListN.{length}
-use borrow.Author.Tests.{lt-ltb, ltb-true, ltb-false, leb-true, eqb-true, eqb-false, not-false}
-use Rattle.bitset.proofs.Tests.{and-out, decided, or-none}
+use borrow.Author.Tests.{lt-ltb, ltb-false, leb-true, eqb-true, not-false}
+use Rattle.bitset.proofs.Tests.{and-out, or-none}
 use Rattle.semiautomata.specs.Semiautomaton.{Within}
 use Rattle.refusals.specs.Checks.{within, firstOf, Numbered}
 use Rattle.refusals.proofs.First.{Passed, first-le, first-passed, first-behind, first-before}
@@ -17,7 +16,7 @@ use Rattle.plan.specs.declared.Header.{Header}
 use Rattle.plan.specs.Plan.{countOff, startHigh, startOff, lineOff, lineTwice}
 use Rattle.semiautomata.specs.Sizes.{Sized}
 use Rattle.plan.specs.Asked.{refusalOf, Proper}
-use Rattle.plan.specs.Bytes.{headerOf, lineWidth, parsed, meaning, placed, misplaced, headerChecks, partChecks, planChecks}
+use Rattle.plan.specs.Bytes.{headerOf, lineWidth, parsed, meaning, placed, headerChecks, partChecks, planChecks}
 use Rattle.plan.specs.Bytes.{asked, refusal, WellFormed}
 use Rattle.plan.specs.Loading.{Sound}
 use Rattle.plan.proofs.Plan.{plan-within}

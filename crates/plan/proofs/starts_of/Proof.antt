@@ -1,6 +1,5 @@
 -- `plan::starts_of` meets its contract.
 -- Assumes nothing.
-use denote.Ref.{now}
 use Rattle.plan.proofs.Refusals.{well-formed-long, well-formed-sound}
 use Rattle.plan.proofs.starts_of.Statement.{statement}
 use Rattle.plan.proofs.starts_of.Tie as tie

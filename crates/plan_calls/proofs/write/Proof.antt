@@ -15,12 +15,20 @@ cast-result c =
 returns : tie.Need-returns
 returns c =
     let w = c .before .before .before .before .before in
-    record { answer = w .write .result; meets = w .write .ensures; passed = rw (c .before .written .given .1) (record { answered = refl; written = refl }) }
+    record {
+      answer = w .write .result;
+      meets = w .write .ensures;
+      passed = rw (c .before .written .given .1) (record { answered = refl; written = refl });
+    }
 
 returns-2 : tie.Need-returns-2
 returns-2 c =
     let w = c .before .before .before .before .before in
-    record { answer = w .write .result; meets = w .write .ensures; passed = rw (c .before .written2 .given .1) (record { answered = refl; written = refl }) }
+    record {
+      answer = w .write .result;
+      meets = w .write .ensures;
+      passed = rw (c .before .written2 .given .1) (record { answered = refl; written = refl });
+    }
 
 pub write-spec : {M : Type 1} → statement M
 write-spec =
