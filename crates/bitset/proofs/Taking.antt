@@ -79,6 +79,12 @@ at-one z k q = go (eqb z k) refl
     go true e = rw (eqb-true z k e)
     go false e = rw e
 
+-- with z put in, some member passes q if one did before, or z does
+pub any-insert : (n set z : ℕ) → z < n → n ≤ 64 → (q : ℕ → Bool)
+    → any n (λ k. has (bitOr set ((1 * 2 ^ z) % 2 ^ 64)) k && q k) ≡ (any n (λ k. has set k && q k) || q z)
+any-insert n set z h w q =
+    any-cong n _ _ (λ k _. rw (has-insert 64 set z k (lt-of-lt-of-le h w), and-or-distrib-right, at-one z k q)) ∙ any-add n _ z (q z) h
+
 module _ {n set rest : ℕ} (l : Left n set rest) (p : 0 < rest) where
   in-word : rest < 2 ^ 64
   in-word = lt-of-lt-of-le (l .below) (pow-mono (l .width))
