@@ -1,4 +1,4 @@
-/* Gawherino for C: every call on plans, tables and records, over plain numbers and lent slices. Version 1.1.0.
+/* Gawherino for C: every call on plans, tables and records, over plain numbers and lent slices. Version 2.0.0.
  *
  * USE. The plan's bytes are in plan; the logger gives one code for each leg. No call allocates, so room is lent:
  *
@@ -43,8 +43,8 @@ extern "C" {
 
 /* The version of this header. A change of a call's parameters, of what it answers, or of the table's or the record's form raises the first
  * number, a further call the second. */
-#define GAWHERINO_VERSION_MAJOR 1
-#define GAWHERINO_VERSION_MINOR 1
+#define GAWHERINO_VERSION_MAJOR 2
+#define GAWHERINO_VERSION_MINOR 0
 #define GAWHERINO_VERSION_PATCH 0
 
 /* ANSWERS */
@@ -78,7 +78,8 @@ static inline uint32_t gawherino_refusal(uint32_t answer)
 #define GAWHERINO_BAD_TABLE 8u       /* the numbers are no prepared plan */
 #define GAWHERINO_SHORT_BUFFER 9u    /* a lent slice is too short */
 #define GAWHERINO_BAD_RECORD 10u     /* the bytes are no record of this table */
-#define GAWHERINO_SEVERAL_STAKES 14u /* a booking is due and two or more stakes are possible: preparing did not make this table */
+#define GAWHERINO_SEVERAL_STAKES 14u /* a booking is due and two or more stakes are possible: preparing did not make this table, or no walk
+                                        reaches the record's booked stake */
 /* By the logger. */
 #define GAWHERINO_TOO_MANY_LEGS 11u  /* 1,000,000 legs are taken */
 #define GAWHERINO_BAD_NUMBER 12u     /* a code or a stake in the call is not the plan's */
@@ -171,6 +172,8 @@ static inline uint32_t gawherino_refusal(uint32_t answer)
 uint32_t gawherino_read(const uint8_t *plan, size_t plan_len, uint32_t *counts, size_t counts_len);
 
 /* Preparing a plan: k, and its table (4 + n * m numbers). Refused with 1 to 7, 9, 15.
+ * A critical set counts if it is the set of starts, or what a code leads to from a stake that some walk from a start reaches: stakes that
+ * no walk reaches any more neither raise k nor cause 15.
  * Under 15, into evidence (6): the critical set's stake and code, stakes s and t, the lengths of the lead-in and of the loop; and into
  * letters (n * n bytes) the lead-in's codes and then the loop's codes. */
 uint32_t gawherino_prepare(const uint8_t *plan, size_t plan_len, uint64_t *table, size_t table_len, uint8_t *letters, size_t letters_len,
@@ -184,7 +187,7 @@ uint32_t gawherino_look_ahead(const uint8_t *plan, size_t plan_len, uint8_t *let
 uint32_t gawherino_count(const uint8_t *plan, size_t plan_len);
 
 /* The check of a claim, given as evidence is: 1 for yes, 0 for no; a claim of fewer than six numbers is no, and numbers past the sixth are
- * not read. Refused with 1 to 7. */
+ * not read; a claim that names the critical set of a stake that no walk reaches is no. Refused with 1 to 7. */
 uint32_t gawherino_check(const uint8_t *plan, size_t plan_len, const uint32_t *claim, size_t claim_len, const uint8_t *letters,
                          size_t letters_len);
 
@@ -200,8 +203,8 @@ uint32_t gawherino_write(const uint8_t *plan, size_t plan_len, uint8_t *out, siz
 uint32_t gawherino_walk(const uint64_t *table, size_t table_len, const uint8_t *word, size_t word_len, uint64_t *sets, size_t sets_len,
                         uint64_t *length, size_t length_len);
 
-/* The verdict on a word for a critical set: 1 if it is a minimal selector, else 0; into sets (2): the stakes of the set that can walk the
- * word, and those for which it is a maximal nonselector. Refused with 8, 9, 12. */
+/* The verdict on a word for a critical set, also one that does not count: 1 if it is a minimal selector, else 0; into sets (2): the stakes
+ * of the set that can walk the word, and those for which it is a maximal nonselector. Refused with 8, 9, 12. */
 uint32_t gawherino_judge(const uint64_t *table, size_t table_len, uint32_t state, uint32_t letter, const uint8_t *word, size_t word_len,
                          uint64_t *sets, size_t sets_len);
 
@@ -211,7 +214,8 @@ uint32_t gawherino_judge(const uint64_t *table, size_t table_len, uint32_t state
  * booked. Refused with 8, 9, 13, 14. */
 uint32_t gawherino_open(const uint64_t *table, size_t table_len, uint8_t *rec, size_t rec_len, uint32_t *position, size_t position_len);
 
-/* A leg, its code any number: answers as opening does. Refused with 8 to 14; 12 if the code is not below m. */
+/* A leg, its code any number: answers as opening does. Refused with 8 to 14; 12 if the code is not below m. A record that a walk left on a
+ * table made by preparing never meets 14; a made-up one may, where no walk reaches its booked stake, for 10 does not look at that. */
 uint32_t gawherino_feed(const uint64_t *table, size_t table_len, uint8_t *rec, size_t rec_len, uint32_t letter, uint32_t *position,
                         size_t position_len);
 

@@ -2,8 +2,8 @@
 -- Assumes nothing.
 use Prim.Native.Nat.{ℕ, zero, suc, _+_, _-_, _*_, _%_, _^_, _≤_, _<_}
 use mathlib.Core.Bool.{Bool, true, false, not, _&&_, _||_, true≢false, false≢true, and-true, and-false}
-use mathlib.Core.Option.{Option, some, none}
-use mathlib.Core.Path.{_≡_, refl, sym, _∙_, fun-ext}
+use mathlib.Core.Option.{some, Option·some-injective}
+use mathlib.Core.Path.{_≡_, refl, sym, _∙_, subst, fun-ext}
 use mathlib.Core.Logic.{_↔_, inl, inr}
 use mathlib.Core.List.{List, [], _∷_, _++_}
 use native.Mathlib.Omega.{arith}
@@ -17,29 +17,42 @@ use Rattle.bitset.specs.Sets.{any, single}
 use Rattle.bitset.specs.Numbers.{has, setOf}
 use Rattle.bitset.proofs.Tests.{and-in, and-out, or-cases, decided, or-none}
 use Rattle.bitset.proofs.Below.{any-in, any-not, with-any}
-use Rattle.bitset.proofs.Bits.{has-empty, has-lt, setOf-lt, has-setOf, is-setOf, setOf-has, pow-setOf, has-shl, meets-none, meets-some}
+use Rattle.bitset.proofs.Bits.{has-empty, has-lt, setOf-lt, has-setOf, pow-setOf, has-shl, meets-none, meets-some}
 use Rattle.semiautomata.specs.Semiautomaton.{Semiautomaton, Within, Path}
 use Rattle.semiautomata.specs.Predictability.{Critical, initial, fork, member, named, Counts, Lasso}
+use Rattle.semiautomata.specs.Access.{accessible}
 use Rattle.semiautomata.specs.Walks.{reach}
-use Rattle.semiautomata.specs.Successors.{place, successors, Fit}
+use Rattle.semiautomata.specs.Successors.{setAt, successors, Fit}
 use Rattle.semiautomata.proofs.Paths.{path-join, path-lt}
 use Rattle.semiautomata.proofs.Computed.{reach-in, reach-out}
 use Rattle.semiautomata.proofs.Shares.{member-lt}
-use Rattle.semiautomata.proofs.Successors.{place-lt, edge-is}
+use Rattle.semiautomata.proofs.Successors.{edge-is, fit-within}
 use Rattle.walks.specs.Walking.{Letters}
 use Rattle.walks.proofs.Steps.{bare, bare-within}
+use Rattle.walks.proofs.Reaching.{reached-in, reached-out}
 use Rattle.lookahead.specs.declared.Evidence.{Evidence}
 use Rattle.lookahead.specs.Answers.{TrueOf}
 use Rattle.claim.specs.inner.Steps.{NamedSet, LedBack, Loops}
 
 -- THE SET THAT IS NAMED
 
+-- two numbers that name T: the set has its states if it counts
+named-as : (S : Semiautomaton) (q a set : ℕ) (T : Critical) → named S q a ≡ some T
+    → ((x : ℕ) → has set x ≡ true → Counts S T × (member S T x ≡ true))
+    → (Counts S T → (x : ℕ) → member S T x ≡ true → has set x ≡ true) → NamedSet S q a set
+named-as S q a set T is from into = record {
+  from = λ x d. let (c, e) = from x d in (T, is, c, e);
+  into = λ U d.
+      subst (λ (T : Critical). Counts S T → (x : ℕ) → member S T x ≡ true → has set x ≡ true)
+      (Option·some-injective T U (sym is ∙ d)) into;
+}
+
 module _ (n m starts : ℕ) (sets : List ℕ) (q a : ℕ) where
-  pub named-initial : (eqb q 255 && eqb a 0) ≡ true → starts < 2 ^ n → NamedSet (successors n m starts sets) q a starts
-  named-initial e h = record {
-    some-set = λ T d. let i : initial ≡ T = cc (rw e at d) in rw (← i) (sym (setOf-has n starts h));
-    no-set = λ d. let z : _≡_ {A = ℕ} 0 1 = cc (rw e at d) in absurd (omega arith);
-  }
+  abbrev S : Semiautomaton
+  S = successors n m starts sets
+
+  pub named-initial : (eqb q 255 && eqb a 0) ≡ true → NamedSet S q a starts
+  named-initial e = named-as S q a starts initial (rw e refl) (λ x d. (tt, d)) (λ _ x d. d)
 
   pub on-plan : (leb n q || leb m a) ≡ false → (q < n) × (a < m)
   on-plan e = let (h, g) = or-none (leb n q) (leb m a) e in (leb-false n q h, leb-false m a g)
@@ -51,20 +64,27 @@ module _ (n m starts : ℕ) (sets : List ℕ) (q a : ℕ) where
   ]
 
   module _ (no : (eqb q 255 && eqb a 0) ≡ false) where
-    pub named-none : (leb n q || leb m a) ≡ true → NamedSet (successors n m starts sets) q a 0
+    pub named-none : (leb n q || leb m a) ≡ true → NamedSet S q a 0
     named-none e = record {
-      some-set = λ T d. let z : _≡_ {A = ℕ} 0 1 = cc (rw (no, off-plan e) at d) in absurd (omega arith);
-      no-set = λ d. refl;
+      from = λ x d. absurd (false≢true (sym (has-empty x) ∙ d));
+      into = λ T d. let z : _≡_ {A = ℕ} 0 1 = cc (rw (no, off-plan e) at d) in absurd (omega arith);
     }
 
-    pub named-fork : Fit n m sets → q < n → a < m → NamedSet (successors n m starts sets) q a (getD sets (place m q a) 0)
-    named-fork f h g = record {
-      some-set = λ T d.
-          let i : fork q a ≡ T = cc (rw (no, lt-ltb q n h, lt-ltb a m g) at d) in
-          rw (← i) (is-setOf n (successors n m starts sets .edge q a) (getD sets (place m q a) 0)
-          (f .below (place m q a) (place-lt n m q a h g)) (λ t _. sym (edge-is n m starts sets q a t h g)));
-      no-set = λ d. let z : _≡_ {A = ℕ} 0 1 = cc (rw (no, lt-ltb q n h, lt-ltb a m g) at d) in absurd (omega arith);
-    }
+    -- the fork set of a state, which is reached or not
+    module _ (f : Fit n m sets) (fits : starts < 2 ^ n) {reached : ℕ} (is : reached ≡ setOf n (accessible S)) (h : q < n) (g : a < m) where
+      fork-named : named S q a ≡ some (fork q a)
+      fork-named = rw (no, lt-ltb q n h, lt-ltb a m g) refl
+
+      pub named-unreached : has reached q ≡ false → NamedSet S q a 0
+      named-unreached e =
+          named-as S q a 0 (fork q a) fork-named (λ x d. absurd (false≢true (sym (has-empty x) ∙ d)))
+          (λ (c, _). absurd (false≢true (sym e ∙ reached-in S is q (fit-within n m starts sets f fits) h c)))
+
+      pub named-fork : has reached q ≡ true → NamedSet S q a (setAt m sets q a)
+      named-fork e =
+          let edge : (x : ℕ) → S .edge q a x ≡ has (setAt m sets q a) x = λ x. edge-is n m starts sets q a x h g in
+          named-as S q a (setAt m sets q a) (fork q a) fork-named
+          (λ x d. let p = edge x ∙ d in ((reached-out S is q e, (x, p)), p)) (λ _ x d. sym (edge x) ∙ d)
 
 -- A CYCLE
 
@@ -171,24 +191,6 @@ part-letters end word l h at size g = record {
 
 -- THE CLAIM
 
-counts-by : (S : Semiautomaton) (T : Critical) (x : ℕ) → member S T x ≡ true → Counts S T
-counts-by S initial x e = tt
-counts-by S (fork q a) x e = (x, e)
-
-module _ {S : Semiautomaton} {q a set : ℕ} (N : NamedSet S q a set) where
-  member-in : Within S → (T : Critical) → named S q a ≡ some T → (x : ℕ) → member S T x ≡ true → has set x ≡ true
-  member-in W T d x e = rw (N .some-set T d, has-setOf, lt-ltb x (S .n) (member-lt W T x e)) e
-
-  member-out : (T : Critical) → named S q a ≡ some T → (x : ℕ) → has set x ≡ true → member S T x ≡ true
-  member-out T d x e = and-out (ltb x (S .n)) _ (rw (N .some-set T d, has-setOf) at e) .1
-
-  some-named : (x : ℕ) → has set x ≡ true → (T : Critical) × (named S q a ≡ some T)
-  some-named x e = go (named S q a) refl
-    where
-      go : (o : Option Critical) → named S q a ≡ o → (T : Critical) × (named S q a ≡ some T)
-      go none d = absurd (false≢true (sym (has-empty x) ∙ (rw (N .no-set d) at e)))
-      go (some T) d = (T, d)
-
 -- the states are out of order, or one is no member; the lengths are none, too many or past the letters
 abbrev statesOff : Evidence → Bool → Bool → Bool
 statesOff k low high = (leb (k .high) (k .low) || not low) || not high
@@ -244,8 +246,8 @@ module _ {S : Semiautomaton} (W : Within S) (k : Evidence) (letters : List ℕ) 
         let w = c .witness in
         rw (
           lt-leb (k .high) (k .low) (w .order),
-          low-is ∙ member-in N W (c .set) (c .names) (k .low) (w .s-in),
-          high-is ∙ member-in N W (c .set) (c .names) (k .high) (w .t-in),
+          low-is ∙ N .into (c .set) (c .names) (w .counts) (k .low) (w .s-in),
+          high-is ∙ N .into (c .set) (c .names) (w .counts) (k .high) (w .t-in),
         )
 
     module _ (states : statesOff k low high ≡ false) where
@@ -259,15 +261,18 @@ module _ {S : Semiautomaton} (W : Within S) (k : Evidence) (letters : List ℕ) 
       pub states-lt : (k .low < S .n) × (k .high < S .n)
       states-lt =
           let (_, e, d) = states-are in
-          let (T, i) = some-named N (k .low) e in
-          (member-lt W T (k .low) (member-out N T i (k .low) e), member-lt W T (k .high) (member-out N T i (k .high) d))
+          let (T, _, _, p) = N .from (k .low) e in
+          let (U, _, _, q) = N .from (k .high) d in
+          (member-lt W T (k .low) p, member-lt W U (k .high) q)
 
       module _ (lengths : lengthsOff (S .n) k letters ≡ false) where
         claimed-by : Lasso S (k .low) (take (k .stem) letters) (take (k .cycle) (drop (k .stem) letters))
             → Lasso S (k .high) (take (k .stem) letters) (take (k .cycle) (drop (k .stem) letters)) → TrueOf S k letters
         claimed-by l r =
             let (o, e, d) = states-are in
-            let (T, i) = some-named N (k .low) e in
+            let (T, i, c, p) = N .from (k .low) e in
+            let (U, j, _, q) = N .from (k .high) d in
+            let same : U ≡ T = Option·some-injective U T (sym j ∙ i) in
             let (u, w) = or-none (eqb (k .cycle) 0) _ (or-none (eqb (k .cycle) 0 || ltb (S .n * S .n) (k .stem + k .cycle)) _ lengths .0) in
             let there = lengths-there (S .n) k letters lengths in
             record {
@@ -275,9 +280,9 @@ module _ {S : Semiautomaton} (W : Within S) (k : Evidence) (letters : List ℕ) 
               names = i;
               there = there;
               witness = record {
-                counts = counts-by S T (k .low) (member-out N T i (k .low) e);
-                s-in = member-out N T i (k .low) e;
-                t-in = member-out N T i (k .high) d;
+                counts = c;
+                s-in = p;
+                t-in = rw same at q;
                 order = o;
                 turns = rw (cycle-length k letters there) (omega (arith, eqb-false (k .cycle) 0 u));
                 short = rw (stem-length k letters there, cycle-length k letters there) (ltb-false (S .n * S .n) (k .stem + k .cycle) w);

@@ -14,7 +14,8 @@ pub enum Checked {
     Refused(u8),
 }
 
-// The states of the critical set that two numbers name; none where they name none.
+// The states of the critical set that two numbers name, if it counts; none where they name none, or the fork set of a state that no walk
+// reaches.
 fn set_named(sets: &[u64], n: usize, m: usize, starts: u64, state: u32, letter: u32) -> u64
     requires { ⌜ Fit n m (now sets) × (starts < 2 ^ n) ⌝ }
     ensures { λ r. ⌜ NamedSet (successors n m starts (now (sets .entry))) state letter r ⌝ }
@@ -25,6 +26,9 @@ fn set_named(sets: &[u64], n: usize, m: usize, starts: u64, state: u32, letter: 
     let q = state as usize;
     let a = letter as usize;
     if (n <= q) | (m <= a) {
+        return 0;
+    }
+    if !bitset::contains(walks::reachable(sets, n, m, starts), state) {
         return 0;
     }
     sets[q * m + a]

@@ -1,25 +1,28 @@
--- What is said of plans A to H: tests computed over the whole table, and one law that turns them into what each row says.
+-- What is said of plans A to H, and of our own: tests computed over the whole table, and one law that turns them into what each row says.
 -- Assumes nothing.
 use Prim.Native.Nat.{ℕ, suc, _-_, _*_, _/_, _≤_, _<_}
 use mathlib.Core.Bool.{Bool, true, false, not, false≢true}
-use mathlib.Core.Option.{Option, some, none}
+use mathlib.Core.Option.{Option, some, none, Option·some-injective}
 use mathlib.Core.Path.{_≡_, refl, sym, _∙_, ap, subst}
 use mathlib.Core.Logic.{inl, inr}
 use mathlib.Core.List.{List, [], _∷_}
 use native.Mathlib.Omega.{arith}
 use lib.Dec.{eqb, ltb}
 use lib.ListN.{length, getD, take}
-use borrow.Author.Tests.{eqb-true, le-ltb}
+use borrow.Author.Tests.{eqb-true, le-ltb, ltb-false}
 use Rattle.bitset.specs.Sets.{any, size}
 use Rattle.bitset.specs.Numbers.{setOf}
 use Rattle.bitset.proofs.Tests.{not-so}
 use Rattle.bitset.proofs.Below.{any-in, any-not}
 use Rattle.semiautomata.specs.Semiautomaton.{Semiautomaton, Within}
-use Rattle.semiautomata.specs.Predictability.{fork, member, named}
+use Rattle.semiautomata.specs.Predictability.{fork, member, named, Counts}
+use Rattle.semiautomata.specs.Access.{accessibleBy, accessible}
 use Rattle.semiautomata.specs.Walks.{Longest, PossibleAt, spells, step, possible, walkable, greatest, longest}
 use Rattle.semiautomata.specs.Selectors.{selector, minimalSelector, maximalNonselector}
 use Rattle.semiautomata.specs.Levels.{live, clashIn, clash}
 use Rattle.refusals.specs.Outcomes.{Outcome, refused, answered}
+use Rattle.semiautomata.proofs.Access.{accessible-in}
+use Rattle.semiautomata.proofs.Paths.{initial-accessible}
 use Rattle.semiautomata.proofs.Shares.{lookahead-unique, lookahead-predicts}
 use Rattle.semiautomata.proofs.Computed.{longest-unique}
 use Rattle.plan.specs.Bytes.{meaning, asked, refusal, WellFormed}
@@ -27,11 +30,26 @@ use Rattle.plan.proofs.Refusals.{well-formed-within, asked-proper}
 use Rattle.prepare.specs.declared.Prepared.{Prepared}
 use Rattle.prepare.specs.Preparing.{LooksAhead, asNumber, Draws}
 use Rattle.prepare.specs.Theorems.{Right}
-use Rattle.samples.specs.Plans.{bytes, Ahead, AsSaid}
+use Rattle.samples.specs.Plans.{bytes, B′, Ahead, AsSaid}
 use Rattle.samples.proofs.Plans.{ahead, ahead-so, samples-hold}
-use Rattle.demand.specs.Rows.{Saying, walked, judged, unopened, at-bound, Row, Replied, drawn, IsSo, AllSo, RowHolds, AllRows, rows}
+use Rattle.streaming.specs.Calls.{Result}
+use Rattle.streaming.specs.Calls as reply
+use Rattle.streaming.specs.PlainWalk.{limit}
+use Rattle.streaming.specs.Streaming.{base, sound, soleAt, settle, feed}
+use Rattle.lookahead.specs.declared.Evidence.{Evidence}
+use Rattle.lookahead.specs.Answers.{TrueOf}
+use Rattle.claim.specs.declared.Checked.{Checked}
+use Rattle.claim.specs.declared.Checked.the-variants as checking
+use Rattle.claim.specs.Checking.{Checks}
+use Rattle.records.specs.Bytes.{heldFrom, decode, tidy}
+use Rattle.deciding.specs.declared.Answer.{Answer}
+use Rattle.deciding.specs.Replies.{said}
+use Rattle.predictor.specs.Calls.{Feeds}
+use Rattle.predictor.proofs.Following as following
+use Rattle.demand.specs.Rows.{Saying, walked, judged, unopened, at-bound, claimed, uncounted, forged, Row, Replied, drawn, IsSo}
+use Rattle.demand.specs.Rows.{AllSo, RowHolds, AllRows, evidence, rows}
 use Rattle.prepare.proofs.Theorems.{theorems as preparing-theorems}
-use Rattle.table.specs.Table.{statesOf, lettersOf, tableMeaning, unfit}
+use Rattle.table.specs.Table.{statesOf, lettersOf, lookaheadOf, tableMeaning, unfit}
 use Rattle.walks.specs.Walking.{letterOff}
 use Rattle.simulate.specs.declared.Verdict.{Verdict}
 use Rattle.simulate.specs.declared.Walked.{Walked}
@@ -109,6 +127,40 @@ module _ (plan : List ℕ) (W : Within (meaning plan)) (k : ℕ) (table : List �
       ap judging.Told (one-verdict (meaning plan) (fork q a) w u v
       (subst (λ (S : Semiautomaton). Tells S (fork q a) w u) means (t (fork q a) e′)) tell)
 
+  -- a forged record is fed as the rule without bytes says, where the look-ahead is 0
+  forged-14 : (bytes : List ℕ) (letter : ℕ) → ahead (meaning plan) (some 0) ≡ true → ltb (length bytes) heldFrom ≡ false
+      → tidy 0 bytes ≡ true → feed (meaning plan) 0 (decode bytes) letter .reply ≡ reply.refused 14
+      → (left : List ℕ) (a : Answer) → Feeds table bytes letter a left → said a ≡ reply.refused 14
+  forged-14 bytes letter is-0 room tidied meets left a f =
+      let zero-k : k ≡ 0 = lookahead-unique (made .prepared .0 .1) (ahead-so (meaning plan) W (some 0) is-0) in
+      let k-is : lookaheadOf table ≡ 0 = t (asked plan) (asked-proper plan) k table made .k-is ∙ zero-k in
+      let holds : following.Holds (lookaheadOf table) bytes (decode bytes) = record {
+        room = rw k-is (omega (arith, ltb-false (length bytes) heldFrom room));
+        tidied = rw k-is tidied;
+        is = refl;
+      } in
+      f .0 ∙ ap (λ (x : Result (List ℕ)). x .reply) (following.fed-is table fit bytes (decode bytes) letter holds) ∙ rw (means, k-is) meets
+
+-- WHAT IS SAID OF CLAIMS
+
+module _ (plan : List ℕ) (w : WellFormed plan) where
+  claimed-yes : (e : Evidence) (letters : List ℕ) → TrueOf (meaning plan) e letters → (r : Checked) → Checks (asked plan) e letters r
+      → r ≡ checking.Yes
+  claimed-yes e letters holds (checking.Refused r) (is, ne, _) = absurd (ne (is ∙ w))
+  claimed-yes e letters holds checking.Yes _ = refl
+  claimed-yes e letters holds checking.No (_, (_, so)) = absurd (false≢true (so holds))
+
+  -- a set named by an unreachable state doesn't count, so that no claim about it is true
+  uncounted-no : Within (meaning plan) → (q a : ℕ) → named (meaning plan) q a ≡ some (fork q a) → accessible (meaning plan) q ≡ false
+      → (e : Evidence) (letters : List ℕ) (r : Checked) → e .state ≡ q → e .letter ≡ a → Checks (asked plan) e letters r → r ≡ checking.No
+  uncounted-no W q a name off e letters (checking.Refused r) _ _ (is, ne, _) = absurd (ne (is ∙ w))
+  uncounted-no W q a name off e letters checking.Yes q-is a-is (_, (so, _)) =
+      let c = so refl in
+      let same : c .set ≡ fork q a = Option·some-injective _ _ (sym (c .names) ∙ rw (q-is, a-is) name) in
+      let counts : Counts (meaning plan) (fork q a) = subst (Counts (meaning plan)) same (c .witness .counts) in
+      absurd (false≢true (sym off ∙ accessible-in (meaning plan) W q (counts .0)))
+  uncounted-no W q a name off e letters checking.No _ _ _ = refl
+
 not-false : (b : Bool) → not b ≡ false → b ≡ true
 not-false true e = refl
 not-false false e = absurd (false≢true (sym e))
@@ -120,27 +172,36 @@ Computed S (walked w sets) =
 Computed S (judged q a w v) = (named S q a ≡ some (fork q a)) × (letterOff (S .m) w ≡ false) × Computes S (member S (fork q a)) w v
 Computed S unopened = any (S .n) (S .initial) ≡ false
 Computed S at-bound = ahead S (some (S .n * (S .n - 1) / 2)) ≡ true
+Computed S (claimed e letters) = TrueOf S e letters
+Computed S (uncounted q a) = (named S q a ≡ some (fork q a)) × (accessible S q ≡ false)
+Computed S (forged bytes letter) =
+    (ahead S (some 0) ≡ true) × (ltb (length bytes) heldFrom ≡ false) × (tidy 0 bytes ≡ true)
+    × (feed S 0 (decode bytes) letter .reply ≡ reply.refused 14)
 
 abbrev AllComputed : Semiautomaton → List Saying → Type 0
 AllComputed S [] = Unit {0}
 AllComputed S (c ∷ cs) = Computed S c × AllComputed S cs
 
-is-so : (plan : List ℕ) → Within (meaning plan) → (c : Saying) → Computed (meaning plan) c → IsSo plan c
-is-so plan W (walked w sets) (begun, letters, whole, at) = λ k table old out a made.
+is-so : (plan : List ℕ) → WellFormed plan → Within (meaning plan) → (c : Saying) → Computed (meaning plan) c → IsSo plan c
+is-so plan wf W (walked w sets) (begun, letters, whole, at) = λ k table old out a made.
     let S = meaning plan in
     let l : Longest S w (length w) = rw whole at (longest-some S W w begun) in
     walk-so plan W k table made w sets begun letters l
     (λ i h. possible-stands S w W (length w) l i h (eqb-true _ _ (not-false _ (any-not _ _ at i (omega arith))))) old out a
-is-so plan W (judged q a w v) (name, letters, c) =
+is-so plan wf W (judged q a w v) (name, letters, c) =
     λ k table r made. judge-so plan W k table made q a w v name letters (tells (meaning plan) W (fork q a) c) r
-is-so plan W at-bound e = λ k table made. lookahead-unique (made .prepared .0 .1) (ahead-so (meaning plan) W (some _) e)
-is-so plan W unopened e = λ k table bytes left a made room o.
+is-so plan wf W at-bound e = λ k table made. lookahead-unique (made .prepared .0 .1) (ahead-so (meaning plan) W (some _) e)
+is-so plan wf W unopened e = λ k table bytes left a made room o.
     theorems (asked plan) (asked-proper plan) k table made .opening-refused bytes a left room o
     (λ s. not-so _ λ q. false≢true (sym e ∙ any-in _ _ s (W .initial-lt s q) q))
+is-so plan wf W (claimed e letters) c = claimed-yes plan wf e letters c
+is-so plan wf W (uncounted q a) (name, off) = uncounted-no plan wf W q a name off
+is-so plan wf W (forged bytes letter) (zero-k, room, tidied, meets) =
+    λ k table left a made. forged-14 plan W k table made bytes letter zero-k room tidied meets left a
 
-all-so : (plan : List ℕ) → Within (meaning plan) → (cs : List Saying) → AllComputed (meaning plan) cs → AllSo plan cs
-all-so plan W [] _ = tt
-all-so plan W (c ∷ cs) (p, ps) = (is-so plan W c p, all-so plan W cs ps)
+all-so : (plan : List ℕ) → WellFormed plan → Within (meaning plan) → (cs : List Saying) → AllComputed (meaning plan) cs → AllSo plan cs
+all-so plan wf W [] _ = tt
+all-so plan wf W (c ∷ cs) (p, ps) = (is-so plan wf W c p, all-so plan wf W cs ps)
 
 -- THE TABLE
 
@@ -155,7 +216,7 @@ row-holds r h c =
       counted = λ a old letters g c. replies plan w k (h .ahead) a (right .counted-right w a old letters g c);
       prepared = λ a old table old′ letters f g c. replies plan w k (h .ahead) a (right .prepared-right w a old table old′ letters f g c);
       drew = draws plan w k (h .ahead);
-      so = all-so plan (well-formed-within plan w) (r .sayings) c;
+      so = all-so plan w (well-formed-within plan w) (r .sayings) c;
     }
 
 abbrev AllHold : List Row → Type 0
@@ -170,14 +231,61 @@ all-rows : (rs : List Row) → AllHold rs → AllSaid rs → AllRows rs
 all-rows [] _ _ = tt
 all-rows (r ∷ rs) (h, hs) (c, cs) = (h, row-holds r h c, all-rows rs hs cs)
 
+-- stake 0 goes round by the loop 0, and so does stake 1, both led to from the start
+twice-named : TrueOf (meaning (bytes B′)) (evidence 0 0 0 1 0 1) (0 ∷ [])
+unfolding any
+twice-named = record {
+  set = fork 0 0;
+  names = refl;
+  there = omega arith;
+  witness = record {
+    counts = (initial-accessible 0 refl, (0, refl));
+    s-in = refl;
+    t-in = refl;
+    order = omega arith;
+    turns = omega arith;
+    short = omega arith;
+    s-lasso = record { knot = 0; reached = refl; back = (0, refl, refl) };
+    t-lasso = record { knot = 1; reached = refl; back = (1, refl, refl) };
+  };
+}
+
 rows-said : AllSaid rows
-unfolding any spells step possible walkable greatest longest selector minimalSelector maximalNonselector setOf size clashIn clash live
+unfolding any spells step possible walkable greatest longest selector minimalSelector maximalNonselector setOf size accessible accessibleBy
+    clashIn clash live tidy feed sound base settle soleAt limit
 rows-said = (
   (
     (refl, refl, record { survivors = refl; minimal = refl; nonselected = refl }),
     ((refl, refl, record { survivors = refl; minimal = refl; nonselected = refl }), tt),
   ),
-  (tt, (((refl, refl, refl, refl), tt), (tt, ((refl, tt), (((refl, refl, refl, refl), tt), ((refl, tt), (tt, (tt, tt)))))))),
+  (
+    tt,
+    (
+      ((refl, refl, refl, refl), tt),
+      (
+        ((refl, refl), tt),
+        (
+          (refl, tt),
+          (
+            ((refl, refl, refl, refl), tt),
+            (
+              (refl, tt),
+              (
+                tt,
+                (
+                  tt,
+                  (
+                    (twice-named, ((refl, refl), tt)),
+                    ((refl, ((refl, refl), tt)), (((refl, refl, refl, refl), ((refl, refl), tt)), tt)),
+                  ),
+                ),
+              ),
+            ),
+          ),
+        ),
+      ),
+    ),
+  ),
 )
 
 pub rows-hold : AllRows rows

@@ -11,11 +11,11 @@ use borrow.Author.Tests.{not-false}
 use Rattle.bitset.specs.Sets.{any}
 use Rattle.bitset.proofs.Tests.{and-out, decided, not-so}
 use Rattle.bitset.proofs.Below.{any-in, with-any}
-use Rattle.semiautomata.specs.Semiautomaton.{Semiautomaton, Within}
+use Rattle.semiautomata.specs.Semiautomaton.{Semiautomaton, Within, Reached}
 use Rattle.semiautomata.specs.Predictability.{Predictable, Lookahead}
 use Rattle.streaming.specs.Calls.{Reply, refused, resolved, nothing, Result}
-use Rattle.streaming.specs.Demand3.{Demand3}
-use Rattle.streaming.specs.Streaming.{Rec, opened, feed, feedChecks, settledBy, streamed}
+use Rattle.streaming.specs.Demand3.{Only11to13, Demand3}
+use Rattle.streaming.specs.Streaming.{Rec, base, opened, feed, feedChecks, settledBy, streamed}
 use Rattle.streaming.proofs.Calls.{passed-done, behind}
 use Rattle.refusals.proofs.First.{first-passed}
 use Rattle.streaming.proofs.Streaming.{opened-none, opened-some, opened-agrees, never-14}
@@ -45,9 +45,10 @@ module _ (table : List ℕ) (fit : unfit table ≡ false) (P : Predictable (tabl
   W : Within (tableMeaning table)
   W = fitting table fit .within
 
-  on-never-14 : (bytes : List ℕ) (a : ℕ) → ¬ (fedOn table bytes a .reply ≡ refused 14)
+  on-never-14 : (bytes : List ℕ) (a : ℕ) → Reached (tableMeaning table) (base (tableMeaning table) (lookaheadOf table) (decode bytes))
+      → ¬ (fedOn table bytes a .reply ≡ refused 14)
   unfolding fedOn feed
-  on-never-14 bytes a e =
+  on-never-14 bytes a access e =
       let S = tableMeaning table in
       let k = lookaheadOf table in
       let r = decode bytes in
@@ -55,7 +56,7 @@ module _ (table : List ℕ) (fit : unfit table ≡ false) (P : Predictable (tabl
       let (z, d) = behind 14 13 cs refl refl bytes _ .0 e in
       let (_, (_, (b, p))) = first-passed 13 cs refl z in
       let on = passed-done (feedChecks S k r a) r (settledBy S k r a) (ap not (and-out (tidy k bytes) _ (not-false _ b) .1), p) in
-      never-14 S W k P r a (ap (λ (x : Result Rec). x .reply) on ∙ d)
+      never-14 S W k P r access a (ap (λ (x : Result Rec). x .reply) on ∙ d)
 
   module _ (s : ℕ) (e : tableMeaning table .initial s ≡ true) where
     -- opening leaves bytes that hold the record of no letters
@@ -135,18 +136,21 @@ module _ (A : Asked) (P : Proper A) (k : ℕ) (table : List ℕ) (made : Made A 
         none : (s : ℕ) → any (S .n) (S .initial) ≡ false → S .initial s ≡ false
         none s q = not-so _ λ e. false≢true (sym q ∙ any-in _ _ s (W table (t .fit) (here .enough) .initial-lt s e) e)
 
-  pub theorems : Theorems A k table made
-  theorems = record {
-    opening-refused = refused-without;
-    opening-taken = λ bytes a left h o. (started bytes a left h o, λ (s, e). taken-with bytes a left h o s e);
-    never-14 = λ bytes letter a left f q. on-never-14 table (t .fit) (here .enough) bytes letter (sym (f .0) ∙ q);
-  }
-
   pub walked-right : (offered : List ℕ) (first : Answer) (answers : List Answer) → Walk table k offered first answers → Taken first
       → Demand3 (A .means) k offered (map said (first ∷ answers))
   walked-right offered first answers w taken =
       let (s, e) = started (w .bytes) first (w .left) (w .room) (w .opening) taken in
       rw (t .means, t .k-is) at (on-demand3 table (t .fit) (here .enough) s (same s ∙ e) here offered first answers (rw (t .k-is) w))
+
+  pub theorems : Theorems A k table made
+  theorems = record {
+    opening-refused = refused-without;
+    opening-taken = λ bytes a left h o. (started bytes a left h o, λ (s, e). taken-with bytes a left h o s e);
+    never-14 = λ bytes letter a left access f q.
+        on-never-14 table (t .fit) (here .enough) bytes letter (rw (t .means, t .k-is) access) (sym (f .0) ∙ q);
+    fresh-refusals = λ offered first answers w taken.
+        rw (walked-right offered first answers w taken .as-plain) (over-meaning.plain-refusals (A .means) k offered);
+  }
 
 pub met : TheoremsMet
 met = theorems

@@ -6,9 +6,11 @@ use mathlib.Core.Logic.{_↔_}
 use mathlib.Core.Path.{_≡_}
 use mathlib.Core.List.{List, [], _∷_, map}
 use lib.ListN.{length}
+use Rattle.semiautomata.specs.Semiautomaton.{Reached}
 use Rattle.semiautomata.specs.Predictability.{Lookahead}
 use Rattle.streaming.specs.Calls.{refused}
-use Rattle.streaming.specs.Demand3.{Demand3}
+use Rattle.streaming.specs.Demand3.{Only11to13, Demand3}
+use Rattle.streaming.specs.Streaming.{base}
 use Rattle.plan.specs.Asked.{Asked, Proper}
 use Rattle.plan.specs.Bytes.{asked, WellFormed}
 use Rattle.table.specs.Table.{setsFrom}
@@ -21,7 +23,7 @@ use Rattle.prepare.specs.declared.Prepared.the-variants.{Ready, Unpredictable}
 use Rattle.prepare.specs.Preparing.{Prepares, CountsTo}
 use Rattle.prepare.specs.Theorems.{EitherCall, Right}
 use Rattle.deciding.specs.declared.Answer.{Answer}
-use Rattle.records.specs.Bytes.{heldFrom}
+use Rattle.records.specs.Bytes.{heldFrom, decode}
 use Rattle.deciding.specs.Replies.{said}
 use Rattle.predictor.specs.Calls.{Opens, Feeds}
 
@@ -59,8 +61,13 @@ pub record Theorems (A : Asked) (k : ℕ) (table : List ℕ) (made : Made A k ta
       → ((s : ℕ) → A .means .initial s ≡ false) → said a ≡ refused 13
   pub opening-taken : (bytes : List ℕ) (a : Answer) (left : List ℕ) → heldFrom + k ≤ length bytes → Opens table bytes a left
       → Taken a ↔ ((s : ℕ) × (A .means .initial s ≡ true))
-  -- 14 is met on no record at all, whatever its bytes are
-  pub never-14 : (bytes : List ℕ) (letter : ℕ) (a : Answer) (left : List ℕ) → Feeds table bytes letter a left → ¬ (said a ≡ refused 14)
+  -- 14 is met on no record whose base some walk from a start reaches (the starts, or a reachable stake), whatever its bytes are else;
+  -- a forged record can meet it, where no walk reaches its booked stake (W-202; specs/Rows, plan D′)
+  pub never-14 : (bytes : List ℕ) (letter : ℕ) (a : Answer) (left : List ℕ) → Reached (A .means) (base (A .means) k (decode bytes))
+      → Feeds table bytes letter a left → ¬ (said a ≡ refused 14)
+  -- and it is never met from a fresh opening on: only 11, 12 and 13 are
+  pub fresh-refusals : (offered : List ℕ) (first : Answer) (answers : List Answer) → Walk table k offered first answers → Taken first
+      → Only11to13 (map said (first ∷ answers))
 
 -- They hold of everything that a call may ask.
 abbrev pub TheoremsMet : Type 0

@@ -1,4 +1,5 @@
--- What document 01 says of plans A to H, of the calls: the look-ahead, the possible states of a walk, verdicts, opening.
+-- What documents 01 and 02 say of plans A to H, and of our own, of the calls: the look-ahead, the possible states of a walk, verdicts,
+-- opening; which claims are said yes, and a forged record that meets 14 (W-202).
 -- Assumes nothing.
 use Prim.Native.Nat.{ℕ, _+_, _-_, _*_, _/_, _≤_, _<_}
 use mathlib.Core.Bool.{Bool, true, false}
@@ -9,8 +10,12 @@ use lib.ListN.{length, getD}
 use Rattle.streaming.specs.Calls as reply
 use Rattle.refusals.specs.Outcomes.{refused, answered}
 use Rattle.plan.specs.Bytes.{headerOf, asked}
-use Rattle.samples.specs.Plans.{Sample, bytes, AsSaid, A, B, C, D, E, F, G, H, C′}
+use Rattle.samples.specs.Plans.{Sample, bytes, AsSaid, A, B, C, D, E, F, G, H, C′, B′, B″, D′}
 use Rattle.table.specs.Table.{setsFrom}
+use Rattle.lookahead.specs.declared.Evidence.{Evidence}
+use Rattle.claim.specs.declared.Checked.{Checked}
+use Rattle.claim.specs.declared.Checked.the-variants.{Yes, No}
+use Rattle.claim.specs.Checking.{Checks}
 use Rattle.prepare.specs.declared.Prepared.{Prepared}
 use Rattle.prepare.specs.Preparing.{outcomeOfPrepared, Prepares, CountsTo, Draws}
 use Rattle.simulate.specs.declared.Verdict.{Verdict}
@@ -23,16 +28,21 @@ use Rattle.simulate.specs.Verdicts.{Judges}
 use Rattle.deciding.specs.declared.Answer.{Answer}
 use Rattle.records.specs.Bytes.{heldFrom}
 use Rattle.deciding.specs.Replies.{said}
-use Rattle.predictor.specs.Calls.{Opens}
+use Rattle.predictor.specs.Calls.{Opens, Feeds}
 use Rattle.demand.specs.Demand.{Made}
 
--- What document 01 says beside the look-ahead: a walk wholly on the plan, with the possible states at each position; the verdict on a word
--- for the fork set of a state and a letter; that opening is refused with 13; that the look-ahead is the bound itself.
+-- What is said beside the look-ahead: a walk wholly on the plan, with the possible states at each position; the verdict on a word for the
+-- fork set of a state and a letter; that opening is refused with 13; that the look-ahead is the bound itself; that a claim with these
+-- letters is said yes; that none is which names the fork set of this state and letter; that this letter fed to these record bytes is
+-- refused with 14.
 pub data Saying : Type 0 where
   walked : List ℕ → List ℕ → Saying
   judged : ℕ → ℕ → List ℕ → Verdict → Saying
   unopened : Saying
   at-bound : Saying
+  claimed : Evidence → List ℕ → Saying
+  uncounted : ℕ → ℕ → Saying
+  forged : List ℕ → ℕ → Saying
 
 -- A sample, and what else is said of it.
 pub record Row : Type 0 where
@@ -48,7 +58,7 @@ abbrev pub drawn : Option ℕ → ℕ
 drawn (some k) = k
 drawn none = 65551
 
--- What document 01 says beside is so of the calls, lent a table that preparing made from the plan.
+-- What is said beside is so of the calls, lent a table that preparing made from the plan.
 abbrev pub IsSo : List ℕ → Saying → Type 0
 IsSo plan (walked word sets) =
     (k : ℕ) (table old out : List ℕ) (a : Walked) → Made (asked plan) k table → length word < length old → Walks table word a old out
@@ -58,6 +68,11 @@ IsSo plan unopened =
     (k : ℕ) (table bytes left : List ℕ) (a : Answer) → Made (asked plan) k table → heldFrom + k ≤ length bytes → Opens table bytes a left
     → said a ≡ reply.refused 13
 IsSo plan at-bound = (k : ℕ) (table : List ℕ) → Made (asked plan) k table → k ≡ headerOf plan .n * (headerOf plan .n - 1) / 2
+IsSo plan (claimed e letters) = (r : Checked) → Checks (asked plan) e letters r → r ≡ Yes
+IsSo plan (uncounted q a) =
+    (e : Evidence) (letters : List ℕ) (r : Checked) → e .state ≡ q → e .letter ≡ a → Checks (asked plan) e letters r → r ≡ No
+IsSo plan (forged bytes letter) =
+    (k : ℕ) (table left : List ℕ) (a : Answer) → Made (asked plan) k table → Feeds table bytes letter a left → said a ≡ reply.refused 14
 
 abbrev pub AllSo : List ℕ → List Saying → Type 0
 AllSo plan [] = Unit {0}
@@ -84,15 +99,22 @@ row sample sayings = record { sample = sample; sayings = sayings }
 abbrev pub verdict : ℕ → Bool → ℕ → Verdict
 verdict alive least stuck = record { survivors = alive; minimal = least; nonselected = stuck }
 
+abbrev pub evidence : ℕ → ℕ → ℕ → ℕ → ℕ → ℕ → Evidence
+evidence state letter low high stem cycle =
+    record { state = state; letter = letter; low = low; high = high; stem = stem; cycle = cycle }
+
 abbrev pub rows : List Row
 rows =
     row A (judged 1 0 [] (verdict 6 false 4) ∷ judged 1 0 (0 ∷ []) (verdict 2 true 0) ∷ [])
     ∷ row B []
     ∷ row C (walked (0 ∷ 1 ∷ []) (3 ∷ 4 ∷ 8 ∷ []) ∷ [])
-    ∷ row D []
+    ∷ row D (uncounted 1 0 ∷ [])
     ∷ row E (unopened ∷ [])
     ∷ row F (walked [] (3 ∷ []) ∷ [])
     ∷ row G (at-bound ∷ [])
     ∷ row H []
     ∷ row C′ []
+    ∷ row B′ (claimed (evidence 0 0 0 1 0 1) (0 ∷ []) ∷ uncounted 2 0 ∷ [])
+    ∷ row B″ (unopened ∷ uncounted 0 0 ∷ [])
+    ∷ row D′ (forged (5 ∷ 0 ∷ 0 ∷ 0 ∷ 0 ∷ 0 ∷ 0 ∷ 0 ∷ []) 0 ∷ uncounted 0 0 ∷ [])
     ∷ []

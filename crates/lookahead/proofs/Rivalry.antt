@@ -1,32 +1,36 @@
--- Rivals: the critical sets place by place, their pairs in rows, and what the shared words of rivals say of the look-ahead.
+-- Rivals: the critical sets that count, their pairs in rows, and what the shared words of rivals say of the look-ahead.
 -- Assumes nothing.
 use mathlib.Core.Bool.{Bool, true, false, _&&_, _||_, false≢true, or-false, or-assoc}
 use mathlib.Core.Path.{_≡_, refl, sym, _∙_}
-use mathlib.Core.Logic.{inl, inr}
+use mathlib.Core.Logic.{_⊎_, inl, inr}
 use mathlib.Core.List.{List}
 use Prim.Native.Nat.{ℕ, _+_, _-_, _*_, _/_, _%_, _^_, _≤_, _<_}
 use native.Mathlib.Numerals.{add-one}
 use native.Mathlib.Omega.{arith}
-use lib.Bits.{bitAnd}
+use lib.Bits.{bitAnd, bitOr}
 use lib.Count.{trailingZeros}
 use lib.Dec.{eqb}
 use lib.ListN.{length, getD, replicate}
 use borrow.Author.Tests.{lt-ltb, eqb-true, ne-eqb}
 use Rattle.bitset.specs.Sets.{any}
-use Rattle.bitset.specs.Numbers.{has}
+use Rattle.bitset.specs.Numbers.{has, setOf}
 use Rattle.bitset.proofs.Tests.{and-in, and-out, or-left, or-right, or-cases, not-so, decided}
 use Rattle.bitset.proofs.Below.{any-in, any-out, any-none}
 use Rattle.bitset.proofs.Bits.{has-empty}
 use Rattle.bitset.proofs.Members.{has-strike}
-use Rattle.semiautomata.specs.Predictability.{Critical, initial, fork, member, Lookahead}
-use Rattle.semiautomata.specs.Successors.{place, successors, Fit}
+use Rattle.bitset.proofs.Taking.{any-insert}
+use Rattle.semiautomata.specs.Semiautomaton.{Semiautomaton}
+use Rattle.semiautomata.specs.Access.{accessible}
+use Rattle.semiautomata.specs.Predictability.{Critical, initial, fork, member, Counts, Lookahead}
+use Rattle.semiautomata.specs.Successors.{place, setAt, successors, Fit}
 use Rattle.semiautomata.proofs.Shares.{share-swap, rivals-lt, clash-ordered}
 use Rattle.semiautomata.proofs.Successors.{place-lt, edge-out, edge-is, state-lt, letter-lt, place-of, fit-within}
 use Rattle.rows.specs.Rows.{pair, Put, Common}
-use Rattle.semiautomata.proofs.Places.{zeros-at}
+use Rattle.semiautomata.proofs.Places.{place-state, zeros-at}
+use Rattle.walks.proofs.Reaching.{reached-in, reached-out}
 use Rattle.pairs.specs.Sharing.{Parted, Lasting}
 use Rattle.pairs.proofs.Starts.{share-starts}
-use Rattle.lookahead.specs.inner.Rivals.{Together, Named, Matched, Rivalry, Endless}
+use Rattle.lookahead.specs.inner.Rivals.{Together, Named, Matched, both, Forked, Rivalry, Endless}
 
 -- A SET WITH ITSELF
 
@@ -46,80 +50,134 @@ matched p = record { long = p .long; is = λ s t _. p .is s t }
 pub matched-none : {set : ℕ} {old : List ℕ} → ((s t : ℕ) → ¬ (s ≡ t) → (has set s && has set t) ≡ false) → Matched set old old
 matched-none f = record { long = refl; is = λ s t d. rw (f s t d, or-false) }
 
--- THE CRITICAL SETS, PLACE BY PLACE
+-- THE FORK SETS OF ONE STATE, letter by letter
 
--- some critical set has both s and t: the initial states, or a fork set at a place below k
-abbrev rival : (starts : ℕ) (sets : List ℕ) (k s t : ℕ) → Bool
-rival starts sets k s t = has starts s && has starts t || any k λ i. has (getD sets i 0) s && has (getD sets i 0) t
-
--- the rows have the rivals of these sets
-pub record Gathered (starts : ℕ) (sets rows : List ℕ) (k : ℕ) : Type 0 where
-  pub long : length rows ≡ 64
-  pub is : (s t : ℕ) → ¬ (s ≡ t) → pair rows s t ≡ rival starts sets k s t
-
-module _ {starts : ℕ} {sets : List ℕ} where
-  pub gathered-first : {rows : List ℕ} → Matched starts (replicate 64 0) rows → Gathered starts sets rows 0
+module _ {m : ℕ} {sets : List ℕ} {q : ℕ} where
+  pub forked-first : {rows : List ℕ} → Forked m sets q 0 rows rows
   unfolding any
-  gathered-first p = record { long = p .long; is = λ s t d. p .is s t d ∙ rw (zeros-at 64 s, has-empty t, or-false) }
+  forked-first = record { long = refl; is = λ s t d. rw or-false }
 
-  pub gathered-next : {old new : List ℕ} {k : ℕ} → Matched (getD sets k 0) old new → Gathered starts sets old k
-      → Gathered starts sets new (k + 1)
+  pub forked-next : {old mid new : List ℕ} {i : ℕ} → Matched (setAt m sets q i) mid new → Forked m sets q i old mid
+      → Forked m sets q (i + 1) old new
   unfolding any
-  gathered-next p g = rw add-one (record { long = p .long ∙ g .long; is = λ s t d. rw (p .is s t d, g .is s t d, or-assoc) })
+  forked-next p f = rw add-one (record { long = p .long ∙ f .long; is = λ s t d. rw (p .is s t d, f .is s t d, or-assoc) })
+
+-- THE FORK SETS OF THE STATES DONE
+
+-- q is one of them, and some letter leads to both s and t from it
+abbrev forks : (m done : ℕ) (sets : List ℕ) (s t q : ℕ) → Bool
+forks m done sets s t q = has done q && any m (both m sets q s t)
+
+-- the rows have the rivals of these sets, beside those of old
+pub record Gathered (n m done : ℕ) (sets old rows : List ℕ) : Type 0 where
+  pub long : length rows ≡ length old
+  pub is : (s t : ℕ) → ¬ (s ≡ t) → pair rows s t ≡ (pair old s t || any n (forks m done sets s t))
+
+module _ {n m : ℕ} {sets old : List ℕ} where
+  pub gathered-first : Gathered n m 0 sets old old
+  gathered-first = record { long = refl; is = λ s t d. rw (any-none n (forks m 0 sets s t) (λ q _. rw (has-empty q)), or-false) }
+
+  pub gathered-next : {mid new : List ℕ} {done q : ℕ} → q < n → n ≤ 64 → Forked m sets q m mid new → Gathered n m done sets old mid
+      → Gathered n m (bitOr done ((1 * 2 ^ q) % 2 ^ 64)) sets old new
+  gathered-next {done = done} {q = q} h w f g = record {
+    long = f .long ∙ g .long;
+    is = λ s t d. rw (f .is s t d, g .is s t d, any-insert n done q h w (λ q. any m (both m sets q s t)), or-assoc);
+  }
+
+-- THE CRITICAL SETS THAT COUNT
 
 module _ (n m starts : ℕ) (sets : List ℕ) where
   -- the fork set at a place
   pub edge-at : (i : ℕ) → i < n * m → (t : ℕ) → successors n m starts sets .edge (i / m) (i % m) t ≡ has (getD sets i 0) t
   edge-at i h t = edge-is n m starts sets (i / m) (i % m) t (state-lt n m i h) (letter-lt n m i h) ∙ rw (place-of n m i h)
 
-  module _ (s t : ℕ) where
-    together-initial : (has starts s && has starts t) ≡ true → Together (successors n m starts sets) s t
-    together-initial e = let (p, q) = and-out (has starts s) _ e in record { set = initial; counts = tt; left = p; right = q }
+  pub names-initial : (s t : ℕ) → (has starts s && has starts t) ≡ true → Named (successors n m starts sets) 255 0 s t
+  names-initial s t e =
+      let (p, q) = and-out (has starts s) _ e in
+      record { together = record { set = initial; counts = tt; left = p; right = q }; names = refl }
 
-    together-at : (i : ℕ) → i < n * m → (has (getD sets i 0) s && has (getD sets i 0) t) ≡ true → Together (successors n m starts sets) s t
-    together-at i h e =
-        let (p, q) = and-out (has (getD sets i 0) s) _ e in
-        record { set = fork (i / m) (i % m); counts = (s, edge-at i h s ∙ p); left = edge-at i h s ∙ p; right = edge-at i h t ∙ q }
-
-    pub names-initial : (has starts s && has starts t) ≡ true → Named (successors n m starts sets) 255 0 s t
-    unfolding together-initial
-    names-initial e = record { together = together-initial e; names = refl }
-
-    pub names-fork : n ≤ 64 → (i : ℕ) → i < n * m → (has (getD sets i 0) s && has (getD sets i 0) t) ≡ true
+  module _ (F : Fit n m sets) (H : starts < 2 ^ n) {reached : ℕ} (R : reached ≡ setOf n (accessible (successors n m starts sets)))
+      (s t : ℕ) where
+    pub names-fork : (i : ℕ) → i < n * m → (has (getD sets i 0) s && has (getD sets i 0) t) ≡ true → has reached (i / m) ≡ true
         → Named (successors n m starts sets) (i / m) (i % m) s t
-    unfolding together-at
-    names-fork w i h e = record {
-      together = together-at i h e;
-      names =
-          let x = state-lt n m i h in
-          rw (ne-eqb (i / m) 255 (λ e. omega arith), lt-ltb (i / m) n x, lt-ltb (i % m) m (letter-lt n m i h));
-    }
+    names-fork i h e r =
+        let (p, q) = and-out (has (getD sets i 0) s) _ e in
+        let x = state-lt n m i h in
+        record {
+          together = record {
+            set = fork (i / m) (i % m);
+            counts = (reached-out (successors n m starts sets) R (i / m) r, (s, edge-at i h s ∙ p));
+            left = edge-at i h s ∙ p;
+            right = edge-at i h t ∙ q;
+          };
+          names =
+              rw (ne-eqb (i / m) 255 (λ e. omega (arith, F .states)), lt-ltb (i / m) n x, lt-ltb (i % m) m (letter-lt n m i h));
+        }
 
-    rival-in : Together (successors n m starts sets) s t → rival starts sets (n * m) s t ≡ true
-    rival-in k = go (k .set) (k .left) (k .right)
+    -- two states that are together are so in the initial states, or at a place of a reached state
+    by-places : Together (successors n m starts sets) s t
+        → ((has starts s && has starts t) ≡ true)
+        ⊎ ((q : ℕ) × (a : ℕ) × (q < n) × (a < m) × (has reached q ≡ true) × (both m sets q s t a ≡ true))
+    by-places k = go (k .set) (k .counts) (k .left) (k .right)
       where
-        go : (T : Critical) → member (successors n m starts sets) T s ≡ true → member (successors n m starts sets) T t ≡ true
-            → rival starts sets (n * m) s t ≡ true
-        go initial p q = or-left (has starts s && has starts t) _ (and-in _ _ p q)
-        go (fork q a) p r =
+        S : Semiautomaton
+        S = successors n m starts sets
+
+        go : (T : Critical) → Counts S T → member S T s ≡ true → member S T t ≡ true
+            → ((has starts s && has starts t) ≡ true)
+            ⊎ ((q : ℕ) × (a : ℕ) × (q < n) × (a < m) × (has reached q ≡ true) × (both m sets q s t a ≡ true))
+        go initial _ p q = inl (and-in _ _ p q)
+        go (fork q a) (c, _) p r =
             let (h, g, x) = edge-out n m starts sets q a s p in
             let y = edge-out n m starts sets q a t r .2 in
-            or-right (has starts s && has starts t) _ (any-in (n * m) _ (place m q a) (place-lt n m q a h g) (and-in _ _ x y))
+            inr (q, a, h, g, reached-in S R q (fit-within n m starts sets F H) h c, and-in _ _ x y)
 
-    rival-out : rival starts sets (n * m) s t ≡ true → Together (successors n m starts sets) s t
-    rival-out e = elim (or-cases (has starts s && has starts t) _ e) [
-      | inl d ↦ together-initial d
-      | inr d ↦ let (i, h, f) = any-out (n * m) _ d in together-at i h f
+    -- the search has passed every critical set that counts
+    pub together-none : (has starts s && has starts t) ≡ false
+        → ((i : ℕ) → i < n * m → ((has (getD sets i 0) s && has (getD sets i 0) t) && has reached (i / m)) ≡ false)
+        → ¬ Together (successors n m starts sets) s t
+    together-none p f k = elim (by-places k) [
+      | inl d ↦ false≢true (sym p ∙ d)
+      | inr (q, a, h, g, r, d) ↦
+          false≢true (sym (f (place m q a) (place-lt n m q a h g)) ∙ and-in _ _ d (rw (place-state m q a g) r))
     ]
 
-    -- the search has passed every critical set
-    pub together-none : (has starts s && has starts t) ≡ false
-        → ((i : ℕ) → i < n * m → (has (getD sets i 0) s && has (getD sets i 0) t) ≡ false) → ¬ Together (successors n m starts sets) s t
-    together-none p f k = false≢true (sym (rw (p, any-none (n * m) _ f)) ∙ rival-in k)
+    rival-out : (has starts s && has starts t || any n (forks m reached sets s t)) ≡ true → Together (successors n m starts sets) s t
+    rival-out e = elim (or-cases (has starts s && has starts t) _ e) [
+      | inl d ↦ names-initial s t d .together
+      | inr d ↦
+          let (q, h, d) = any-out n _ d in
+          let (r, d) = and-out (has reached q) _ d in
+          let (a, g, d) = any-out m _ d in
+          let (x, y) = and-out (has (setAt m sets q a) s) _ d in
+          let p = edge-is n m starts sets q a s h g ∙ x in
+          record {
+            set = fork q a;
+            counts = (reached-out (successors n m starts sets) R q r, (s, p));
+            left = p;
+            right = edge-is n m starts sets q a t h g ∙ y;
+          }
+    ]
+
+    rival-in : Together (successors n m starts sets) s t → (has starts s && has starts t || any n (forks m reached sets s t)) ≡ true
+    rival-in k = elim (by-places k) [
+      | inl d ↦ or-left (has starts s && has starts t) _ d
+      | inr (q, a, h, g, r, d) ↦
+          or-right (has starts s && has starts t) _ (any-in n _ q h (and-in _ _ r (any-in m _ a g d)))
+    ]
 
   -- the rows of rivals
-  pub rivalry : {rows : List ℕ} → Gathered starts sets rows (n * m) → Rivalry (successors n m starts sets) rows
-  rivalry g = record { from = λ s t d e. rival-out s t (sym (g .is s t d) ∙ e); into = λ s t d h. g .is s t d ∙ rival-in s t h }
+  pub rivalry : Fit n m sets → starts < 2 ^ n → {reached : ℕ} → reached ≡ setOf n (accessible (successors n m starts sets))
+      → {done : ℕ} → reached ≡ done
+      → {first rows : List ℕ} → Matched starts (replicate 64 0) first → Gathered n m done sets first rows
+      → Rivalry (successors n m starts sets) rows
+  rivalry F H {reached} R e {first} {rows} p g = record {
+    from = λ s t d e. rival-out F H R s t (sym (is s t d) ∙ e);
+    into = λ s t d k. is s t d ∙ rival-in F H R s t k;
+  }
+    where
+      is : (s t : ℕ) → ¬ (s ≡ t) → pair rows s t ≡ (has starts s && has starts t || any n (forks m reached sets s t))
+      is s t d = rw (g .is s t d, p .is s t d, zeros-at 64 s, has-empty t, e)
 
   -- WHAT SHARED WORDS SAY OF RIVALS
 

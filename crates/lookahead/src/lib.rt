@@ -1,7 +1,7 @@
 // The look-ahead of a semiautomaton by its successor sets, or the witness that there is none; never from plan bytes.
 // Which pairs of states are rivals is worked out here, which pairs share words in crate pairs: the first number of letters with which no
 // rivals do is the look-ahead.
-mod rivals; // rivals.rt: the rows of rivals
+mod rivals; // rivals.rt: the rows of rivals, and the states that some walk reaches
 mod witness; // witness.rt: the critical set and the lasso of two states that share words of every length
 
 ghost use Prim.Native.Nat.{_*_, _^_, _≤_, _<_};
@@ -30,11 +30,22 @@ pub fn look_ahead(sets: &[u64], n: usize, m: usize, starts: u64, letters: &mut [
     requires { ⌜ Fit n m (now sets) × (starts < 2 ^ n) × (n * n ≤ length (now letters)) ⌝ }
     ensures { λ r. ⌜ Answers (successors n m starts (now (sets .entry))) r (now (letters .entry)) (now (letters .exit)) ⌝ }
 {
-    let rival = rivals::rivals(sets, n, m, starts);
+    let paired = rivals::rivals(sets, n, m, starts);
+    let rival = paired.rows;
     let found = pairs::settle(sets, n, m, &rival);
     if !found.stable {
         return Found::Lookahead(found.rounds);
     }
     let live = found.live;
-    Found::Never(witness::evidence(sets, n, m, starts, &live, found.low, found.high, letters))
+    Found::Never(witness::evidence(
+        sets,
+        n,
+        m,
+        starts,
+        paired.reached,
+        &live,
+        found.low,
+        found.high,
+        letters,
+    ))
 }

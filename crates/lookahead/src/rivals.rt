@@ -1,8 +1,13 @@
-// Which pairs of states are rivals, from the critical sets that count.
+// Which pairs of states are rivals, from the critical sets that count: the initial states, and the fork sets of the states that some walk
+// reaches.
 ghost use mathlib.Core.Path.{_≡_};
+ghost use Prim.Native.Nat.{_^_, _<_};
 ghost use lib.ListN.{length};
+ghost use Rattle.bitset.specs.Numbers.{setOf};
+ghost use Rattle.semiautomata.specs.Access.{accessible};
 ghost use Rattle.semiautomata.specs.Successors.{successors, Fit};
-ghost use Rattle.lookahead.specs.inner.Rivals.{Matched, Rivalry};
+ghost use Rattle.walks.specs.Walking.{ledBy};
+ghost use Rattle.lookahead.specs.inner.Rivals.{Matched, Forked, Rivalry};
 
 // The states of the set are paired with each other; of fewer than two there is nothing to pair.
 fn pair_set(rows: &mut [u64; 64], set: u64)
@@ -14,15 +19,45 @@ fn pair_set(rows: &mut [u64; 64], set: u64)
     }
 }
 
-// The pairs of different states that some critical set has both of.
-pub fn rivals(sets: &[u64], n: usize, m: usize, starts: u64) -> [u64; 64]
-    requires { ⌜ Fit n m (now sets) ⌝ }
-    ensures { λ z. ⌜ Rivalry (successors n m starts (now (sets .entry))) z ⌝ }
+// The states of each fork set of q are paired with each other; answers all states of these sets.
+fn pair_forks(rows: &mut [u64; 64], sets: &[u64], n: usize, m: usize, q: usize) -> u64
+    requires { ⌜ (length (now rows) ≡ 64) × Fit n m (now sets) × (q < n) ⌝ }
+    ensures { λ r. ⌜ Forked m (now (sets .entry)) q m (now (rows .entry)) (now (rows .exit))
+        × (r ≡ setOf n (ledBy m (now (sets .entry)) q m)) ⌝ }
+{
+    let mut out: u64 = 0;
+    for a in 0..m {
+        let set = sets[q * m + a];
+        pair_set(rows, set);
+        out |= set;
+    }
+    out
+}
+
+// The pairs of rivals, and the states that some walk reaches.
+pub struct Paired {
+    pub rows: [u64; 64],
+    pub reached: u64,
+}
+
+// The pairs of different states that some critical set that counts has both of. The sets are passed over once: a state is taken as in
+// `walks::reachable`, and its fork sets are paired while they are joined.
+pub fn rivals(sets: &[u64], n: usize, m: usize, starts: u64) -> Paired
+    requires { ⌜ Fit n m (now sets) × (starts < 2 ^ n) ⌝ }
+    ensures { λ r. ⌜ Rivalry (successors n m starts (now (sets .entry))) (r .rows)
+        × (r .reached ≡ setOf n (accessible (successors n m starts (now (sets .entry))))) ⌝ }
 {
     let mut rows = [0u64; 64];
     pair_set(&mut rows, starts);
-    for i in 0..n * m {
-        pair_set(&mut rows, sets[i]);
+    let mut seen = starts;
+    let mut done: u64 = 0;
+    while seen != done {
+        let q = u64::trailing_zeros(seen ^ done) as usize;
+        done |= 1 << q;
+        seen |= pair_forks(&mut rows, sets, n, m, q);
     }
-    rows
+    Paired {
+        rows,
+        reached: seen,
+    }
 }

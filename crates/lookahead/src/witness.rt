@@ -6,7 +6,8 @@ ghost use mathlib.Core.Bool.{_&&_};
 ghost use mathlib.Core.Path.{_≡_};
 ghost use Prim.Native.Nat.{_*_, _^_, _≤_, _<_};
 ghost use lib.ListN.{length};
-ghost use Rattle.bitset.specs.Numbers.{has};
+ghost use Rattle.bitset.specs.Numbers.{has, setOf};
+ghost use Rattle.semiautomata.specs.Access.{accessible};
 ghost use Rattle.semiautomata.specs.Successors.{successors, Fit};
 ghost use Rattle.lookahead.specs.inner.Rivals.{Together, Named, Endless};
 ghost use Rattle.lookahead.specs.Answers.{Answers};
@@ -25,8 +26,18 @@ pub struct Name {
     pub letter: u32,
 }
 
-pub fn critical_set(sets: &[u64], n: usize, m: usize, starts: u64, s: usize, t: usize) -> Name
-    requires { ⌜ Fit n m (now sets) × (starts < 2 ^ n) × Together (successors n m starts (now sets)) s t ⌝ }
+// One that counts and has both states.
+pub fn critical_set(
+    sets: &[u64],
+    n: usize,
+    m: usize,
+    starts: u64,
+    reached: u64,
+    s: usize,
+    t: usize,
+) -> Name
+    requires { ⌜ Fit n m (now sets) × (starts < 2 ^ n) × Together (successors n m starts (now sets)) s t
+        × (reached ≡ setOf n (accessible (successors n m starts (now sets)))) ⌝ }
     ensures { λ r. ⌜ Named (successors n m starts (now (sets .entry))) (r .state) (r .letter) s t ⌝ }
 {
     if has_both(starts, s, t) {
@@ -38,8 +49,10 @@ pub fn critical_set(sets: &[u64], n: usize, m: usize, starts: u64, s: usize, t: 
     for i in 0..n * m {
         if has_both(sets[i], s, t) {
             let state = (i / m) as u32;
-            let letter = (i % m) as u32;
-            return Name { state, letter };
+            if bitset::contains(reached, state) {
+                let letter = (i % m) as u32;
+                return Name { state, letter };
+            }
         }
     }
     Name {
@@ -55,16 +68,18 @@ pub fn evidence(
     n: usize,
     m: usize,
     starts: u64,
+    reached: u64,
     live: &[u64; 64],
     low: usize,
     high: usize,
     letters: &mut [u8],
 ) -> Evidence
     requires { ⌜ Endless n m starts (now sets) (now live) low high ⌝ }
-    requires { ⌜ Fit n m (now sets) × (starts < 2 ^ n) × (n * n ≤ length (now letters)) ⌝ }
+    requires { ⌜ Fit n m (now sets) × (starts < 2 ^ n) × (n * n ≤ length (now letters))
+        × (reached ≡ setOf n (accessible (successors n m starts (now sets)))) ⌝ }
     ensures { λ r. ⌜ Answers (successors n m starts (now (sets .entry))) (Found.Never r) (now (letters .entry)) (now (letters .exit)) ⌝ }
 {
-    let set = critical_set(sets, n, m, starts, low, high);
+    let set = critical_set(sets, n, m, starts, reached, low, high);
     let mut seen = [0u16; semiautomata::MAX_EVIDENCE];
     let mut x = low;
     let mut y = high;

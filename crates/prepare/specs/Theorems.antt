@@ -8,6 +8,8 @@ use mathlib.Core.List.{List}
 use lib.ListN.{length}
 use Rattle.semiautomata.specs.Semiautomaton.{Semiautomaton}
 use Rattle.semiautomata.specs.Predictability as predictability
+use Rattle.semiautomata.specs.Access.{trim}
+use Rattle.semiautomata.specs.Wide.{LookaheadWide, UnpredictableWide}
 use Rattle.refusals.specs.Outcomes.{refused, answered}
 use Rattle.plan.specs.Asked.{Asked, Passes, Proper}
 use Rattle.table.specs.Table.{setsFrom, unfit, contents, contentsOf}
@@ -49,6 +51,13 @@ pub record Theorems (A : Asked) : Type 0 where
   -- both bounds of k
   pub bound : (k : ℕ) (old letters : List ℕ) → EitherCall A (Ready k) old letters → k ≤ A .means .n * (A .means .n - 1) / 2
   pub bound-one-letter : A .means .m ≡ 1 → (k : ℕ) (old letters : List ℕ) → EitherCall A (Ready k) old letters → k ≤ A .means .n - 1
+  -- W-202: k is no more than where every critical set counts, and 15 is said of no plan that has a k then
+  pub never-more : (k j : ℕ) (old letters : List ℕ) → EitherCall A (Ready k) old letters → LookaheadWide (A .means) j → k ≤ j
+  pub wide-missing : (e : Evidence) (old letters : List ℕ) → EitherCall A (Unpredictable e) old letters → UnpredictableWide (A .means)
+  -- 003 compared: what is answered is what 003 has of the plan without its unreachable states
+  pub compared : (k : ℕ) (old letters : List ℕ) → EitherCall A (Ready k) old letters → LookaheadWide (trim (A .means)) k
+  pub compared-missing : (e : Evidence) (old letters : List ℕ) → EitherCall A (Unpredictable e) old letters
+      → UnpredictableWide (trim (A .means))
   -- the evidence that is answered passes the check
   pub evidence-passes : (e : Evidence) (old letters : List ℕ) → EitherCall A (Unpredictable e) old letters → (r : Checked)
       → Checks A e letters r → r ≡ Yes

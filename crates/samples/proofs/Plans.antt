@@ -3,21 +3,23 @@
 use Prim.Native.Nat.{ℕ, zero, suc, _*_}
 use mathlib.Core.Bool.{Bool, true, not, _&&_}
 use mathlib.Core.Option.{Option, some, none}
-use mathlib.Core.Path.{_≡_, refl}
+use mathlib.Core.Path.{_≡_, refl, ap}
 use mathlib.Core.List.{List, [], _∷_, map}
 use native.Mathlib.Omega.{arith}
 use lib.Dec.{eqb}
 use borrow.Author.Tests.{eqb-true, not-true}
 use Rattle.bitset.specs.Sets.{any}
 use Rattle.semiautomata.specs.Semiautomaton.{Semiautomaton, Within}
+use Rattle.semiautomata.specs.Access.{accessibleBy, accessible}
 use Rattle.semiautomata.specs.Levels.{live, clashIn, clash}
 use Rattle.semiautomata.proofs.Levels.{with-and}
 use Rattle.semiautomata.proofs.Decide.{clash-out, clash-in, some-shorter, lookahead-first, some-witness, witness-unpredictable}
 use Rattle.semiautomata.specs.Lists.{range}
+use Rattle.plan.specs.Written.{Listed}
 use Rattle.plan.specs.Asked.{refusalOf}
 use Rattle.plan.specs.Bytes.{parsed, meaning, planChecks, refusal, WellFormed}
 use Rattle.plan.proofs.Refusals.{well-formed-within}
-use Rattle.samples.specs.Plans.{Sample, bytes, A, B, C, D, E, F, G, H, C′, samples, Ahead, ReadBack, AsSaid, All, Theorems}
+use Rattle.samples.specs.Plans.{Sample, bytes, samples, Ahead, ReadBack, AsSaid, All, Theorems}
 
 -- the test of a look-ahead: no clash at k, one at k - 1; or one at n × n
 abbrev pub ahead : Semiautomaton → Option ℕ → Bool
@@ -53,42 +55,31 @@ all-hold [] r e = tt
 all-hold (s ∷ ss) (r, rs) e = with-and (passes s) _ (λ a b. (holds s r a, all-hold ss rs b)) e
 
 samples-pass : all samples ≡ true
-unfolding refusalOf planChecks any clashIn clash live
+unfolding refusalOf planChecks any clashIn clash live accessible accessibleBy
 samples-pass = refl
 
--- as it is listed, by computing
-abbrev AsListed : Sample → Type 0
-AsListed s =
+-- what the bytes hold, as a list; all of them are as they are listed, by computing
+abbrev back : Sample → Listed
+back s =
     let plan = parsed (bytes s) in
-    (plan .n ≡ s .plan .n) × (plan .m ≡ s .plan .m) × (map (plan .start) (range 0 (plan .p)) ≡ s .plan .starts)
-    × (map (plan .line) (range 0 (plan .e)) ≡ s .plan .lines)
+    record { n = plan .n; m = plan .m; starts = map (plan .start) (range 0 (plan .p)); lines = map (plan .line) (range 0 (plan .e)) }
 
-read-back : (s : Sample) → AsListed s → ReadBack (s .plan) (parsed (bytes s))
-read-back s (n, m, starts, lines) = record { n = n; m = m; starts = starts; lines = lines }
+read-back : (ss : List Sample) → map back ss ≡ map (λ (s : Sample). s .plan) ss → AllRead ss
+read-back [] e = tt
+read-back (s ∷ ss) e =
+    let h : back s ≡ s .plan = cc in
+    let rest : map back ss ≡ map (λ (s : Sample). s .plan) ss = cc in (
+      record {
+        n = ap (λ (P : Listed). P .n) h;
+        m = ap (λ (P : Listed). P .m) h;
+        starts = ap (λ (P : Listed). P .starts) h;
+        lines = ap (λ (P : Listed). P .lines) h;
+      },
+      read-back ss rest,
+    )
 
 samples-read : AllRead samples
-samples-read = (
-  read-back A (refl, refl, refl, refl),
-  (
-    read-back B (refl, refl, refl, refl),
-    (
-      read-back C (refl, refl, refl, refl),
-      (
-        read-back D (refl, refl, refl, refl),
-        (
-          read-back E (refl, refl, refl, refl),
-          (
-            read-back F (refl, refl, refl, refl),
-            (
-              read-back G (refl, refl, refl, refl),
-              (read-back H (refl, refl, refl, refl), (read-back C′ (refl, refl, refl, refl), tt)),
-            ),
-          ),
-        ),
-      ),
-    ),
-  ),
-)
+samples-read = read-back samples refl
 
 pub samples-hold : All samples
 samples-hold = all-hold samples samples-read samples-pass

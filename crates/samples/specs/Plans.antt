@@ -1,4 +1,5 @@
--- Document 01's plans A to H as it lists them, each with its look-ahead; and a ninth: C numbered so that a round in place would go wrong.
+-- Document 01's plans A to H as it lists them, each with its look-ahead, D's as W-202 has it; and plans of our own: C numbered so that a
+-- round in place would go wrong, and three of which some stakes are abandoned.
 -- Assumes nothing.
 use Prim.Native.Nat.{ℕ}
 use mathlib.Core.Option.{Option, some, none}
@@ -34,7 +35,7 @@ abbrev pub C : Sample
 C = sample 4 2 (0 ∷ 1 ∷ []) (line 0 0 2 ∷ line 1 0 2 ∷ line 2 1 3 ∷ []) (some 3)
 
 abbrev pub D : Sample
-D = sample 3 1 (0 ∷ []) (line 0 0 0 ∷ line 1 0 1 ∷ line 1 0 2 ∷ line 2 0 2 ∷ []) none
+D = sample 3 1 (0 ∷ []) (line 0 0 0 ∷ line 1 0 1 ∷ line 1 0 2 ∷ line 2 0 2 ∷ []) (some 0)
 
 abbrev pub E : Sample
 E = sample 1 1 [] [] (some 0)
@@ -52,8 +53,20 @@ H = sample 4 2 (0 ∷ 1 ∷ []) (line 0 0 2 ∷ line 1 0 2 ∷ line 2 1 3 ∷ li
 abbrev pub C′ : Sample
 C′ = sample 4 2 (2 ∷ 3 ∷ []) (line 2 0 1 ∷ line 3 0 1 ∷ line 1 1 0 ∷ []) (some 3)
 
+-- B and a stake 2 that no walk reaches, which names the fork set of stake 0 too
+abbrev pub B′ : Sample
+B′ = sample 3 1 (0 ∷ []) (line 0 0 0 ∷ line 0 0 1 ∷ line 1 0 1 ∷ line 2 0 0 ∷ line 2 0 1 ∷ []) none
+
+-- B without a start: nothing but the empty set of starts counts
+abbrev pub B″ : Sample
+B″ = sample 2 1 [] (line 0 0 0 ∷ line 0 0 1 ∷ line 1 0 1 ∷ []) (some 0)
+
+-- no walk reaches stake 0, which has a fork; a forged record may begin there
+abbrev pub D′ : Sample
+D′ = sample 2 2 (1 ∷ []) (line 0 0 0 ∷ line 0 0 1 ∷ []) (some 0)
+
 abbrev pub samples : List Sample
-samples = A ∷ B ∷ C ∷ D ∷ E ∷ F ∷ G ∷ H ∷ C′ ∷ []
+samples = A ∷ B ∷ C ∷ D ∷ E ∷ F ∷ G ∷ H ∷ C′ ∷ B′ ∷ B″ ∷ D′ ∷ []
 
 -- Plan A's bytes, as document 01 has them in hexadecimal.
 abbrev pub bytesOfA : List ℕ

@@ -6,13 +6,15 @@ use mathlib.Core.Path.{_≡_, refl, sym, _∙_}
 use mathlib.Core.Logic.{_⊎_, inl, inr}
 use native.Mathlib.Omega.{arith}
 use native.Mathlib.Decide.{ℕ-discrete}
-use Rattle.bitset.proofs.Tests.{and-in, or-left, or-right, or-cases, decided}
+use Rattle.bitset.specs.Sets.{any}
+use Rattle.bitset.proofs.Tests.{and-in, and-out, or-left, or-right, or-cases, decided}
 use Rattle.bitset.proofs.Below.{any-in, with-any, any-out}
 use Rattle.semiautomata.specs.Semiautomaton.{Semiautomaton, Within}
 use Rattle.semiautomata.specs.Predictability.{Critical, initial, fork, member, Counts, Share, Clash, SomeClash, SetPredictable, Need}
 use Rattle.semiautomata.specs.Predictability.{Lookahead, Unpredictable, Claim, Witness}
 use Rattle.semiautomata.specs.Levels.{live, counts, clashIn, clashOf, clash}
 use Rattle.semiautomata.proofs.Shares.{share-shorter, member-lt, rivals-lt, clash-shorter, clash-ordered, predictable-more}
+use Rattle.semiautomata.proofs.Access.{accessible-in, accessible-out}
 use Rattle.semiautomata.proofs.Levels.{with-and, live-in, live-out, live-fixed}
 use Rattle.semiautomata.proofs.Lassos.{lasso-share, share-twin, share-ever}
 use Rattle.semiautomata.proofs.Bound.{lookahead-bound}
@@ -31,7 +33,10 @@ first-failure p (suc N) = elim (first-failure p N) [ inr k ↦ inr k | inl all �
 module _ (S : Semiautomaton) where
   pub counts-out : (T : Critical) → counts S T ≡ true → Counts S T
   counts-out initial e = tt
-  counts-out (fork q a) e = let (t, _, e) = any-out (S .n) (S .edge q a) e in (t, e)
+  counts-out (fork q a) e =
+      let (some, reached) = and-out (any (S .n) (S .edge q a)) _ e in
+      let (t, _, e) = any-out (S .n) (S .edge q a) some in
+      (accessible-out S q reached, (t, e))
 
   pub clashIn-out : (X : ℕ → Bool) (j : ℕ) → clashIn S X j ≡ true → Clash S X j
   unfolding clashIn
@@ -62,7 +67,7 @@ module _ (S : Semiautomaton) where
   module _ (W : Within S) where
     pub counts-in : (T : Critical) → Counts S T → counts S T ≡ true
     counts-in initial c = refl
-    counts-in (fork q a) (t, e) = any-in (S .n) (S .edge q a) t (W .to-lt q a t e) e
+    counts-in (fork q a) (c, (t, e)) = and-in _ _ (any-in (S .n) (S .edge q a) t (W .to-lt q a t e) e) (accessible-in S W q c)
 
     pub clashIn-in : (X : ℕ → Bool) → ((s : ℕ) → X s ≡ true → s < S .n) → (j : ℕ) → Clash S X j → clashIn S X j ≡ true
     unfolding clashIn
@@ -79,7 +84,7 @@ module _ (S : Semiautomaton) where
     unfolding clash
     clash-by j initial c k = or-left (clashOf S j initial) _ (clashOf-in j initial c k)
     clash-by j (fork q a) c k =
-        let (t, e) = c in
+        let (t, e) = c .1 in
         or-right (clashOf S j initial) _
         (any-in _ _ q (W .from-lt q a t e) (any-in _ _ a (W .letter-lt q a t e) (clashOf-in j (fork q a) c k)))
 

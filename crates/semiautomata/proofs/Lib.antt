@@ -2,10 +2,12 @@ pub mod Paths
 pub mod Shares
 pub mod Pairs
 pub mod Runs
+pub mod Access
 pub mod Bound
 pub mod Levels
 pub mod Lassos
 pub mod Decide
+pub mod Wide
 pub mod Computed
 pub mod Positions
 pub mod Selectors

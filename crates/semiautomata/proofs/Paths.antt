@@ -1,11 +1,11 @@
--- Paths and the words they spell: joined, split, shortened, and carried into a larger semiautomaton.
+-- Paths and the words they spell: joined, split, shortened, and carried into a larger semiautomaton; the states that they reach.
 -- Assumes nothing.
 use Prim.Native.Nat.{ℕ, _<_}
 use mathlib.Core.Bool.{true}
 use mathlib.Core.Path.{_≡_, refl}
 use mathlib.Core.List.{List, [], _∷_, _++_}
 use lib.ListN.{take, drop, take-append-drop}
-use Rattle.semiautomata.specs.Semiautomaton.{Semiautomaton, Within, Path, Spells, Sub}
+use Rattle.semiautomata.specs.Semiautomaton.{Semiautomaton, Within, Path, Spells, Accessible, Reached, Sub}
 
 module _ (S : Semiautomaton) where
   pub path-join : (u v : List ℕ) (s t r : ℕ) → Path S s u t → Path S t v r → Path S s (u ++ v) r
@@ -39,3 +39,28 @@ module _ (S : Semiautomaton) where
 pub path-sub : (S L : Semiautomaton) → Sub S L → (w : List ℕ) (s t : ℕ) → Path S s w t → Path L s w t
 path-sub S L i [] s t p = p
 path-sub S L i (a ∷ w) s t (r, e, p) = (r, i .edge-in s a r e, path-sub S L i w r t p)
+
+-- ACCESSIBLE STATES
+module _ {S : Semiautomaton} where
+  pub initial-accessible : Reached S (S .initial)
+  initial-accessible s e = record { start = s; from-it = e; word = []; path = refl }
+
+  -- what a word leads to from an accessible state is accessible
+  pub accessible-after : {q t : ℕ} (w : List ℕ) → Accessible S q → Path S q w t → Accessible S t
+  accessible-after {q} {t} w c p = record {
+    start = c .start;
+    from-it = c .from-it;
+    word = c .word ++ w;
+    path = path-join S (c .word) w (c .start) q t (c .path) p;
+  }
+
+  pub accessible-next : {q a t : ℕ} → Accessible S q → S .edge q a t ≡ true → Accessible S t
+  accessible-next {q} {a} {t} c e = accessible-after (a ∷ []) c (t, e, refl)
+
+pub accessible-sub : {S L : Semiautomaton} → Sub S L → {q : ℕ} → Accessible S q → Accessible L q
+accessible-sub {S} {L} i {q} c = record {
+  start = c .start;
+  from-it = i .initial-in (c .start) (c .from-it);
+  word = c .word;
+  path = path-sub S L i (c .word) (c .start) q (c .path);
+}

@@ -11,10 +11,11 @@ use lib.ListN.{length, take, drop, getD, take-append-drop, length-drop}
 use lib.Seq.{take-length, take-suc, drop-cons, take-append-le, drop-append-le, take-add, drop-drop, length-take-le}
 use borrow.Author.Tests.{eqb-true, eq-eqb}
 use Rattle.bitset.specs.Sets.{single}
-use Rattle.semiautomata.specs.Semiautomaton.{Semiautomaton, Within, Path, Spells, Accessible}
+use Rattle.semiautomata.specs.Semiautomaton.{Semiautomaton, Within, Path, Spells, Accessible, Reached}
 use Rattle.semiautomata.specs.Predictability.{fork, Counts, SetPredictable, Predictable}
 use Rattle.semiautomata.specs.Walks.{Walkable, OnPlan, Longest, Possible, PossibleAt}
 use Rattle.semiautomata.proofs.Paths.{path-join, path-split, path-lt, spells-after, spells-split, spells-prefix, spells-take}
+use Rattle.semiautomata.proofs.Paths.{accessible-after}
 use Rattle.semiautomata.proofs.Computed.{longest-unique}
 
 pub single-is : (s t : ℕ) → single s t ≡ true → t ≡ s
@@ -57,9 +58,9 @@ module _ (S : Semiautomaton) (X : ℕ → Bool) where
       let e : S .edge r (getD w i 0) x ≡ true = rw q at e in
       (r, record { start = c .start; from-it = c .from-it; before = p; after = rw (drop-cons w i 0 h) (t, (x, e, after)) }, e)
 
-  -- a fork that a walk from X comes through counts
-  pub fork-counts : {w : List ℕ} {i r a t : ℕ} → Possible S X w i r → S .edge r a t ≡ true → Counts S (fork r a)
-  fork-counts {t = t} c e = (t, e)
+  -- a fork that a walk from accessible states comes through counts
+  pub fork-counts : Reached S X → {w : List ℕ} {i r a t : ℕ} → Possible S X w i r → S .edge r a t ≡ true → Counts S (fork r a)
+  fork-counts access {w} {i} {t = t} c e = (accessible-after (take i w) (access (c .start) (c .from-it)) (c .before), (t, e))
 
   -- of two different possible states that k letters follow, two rivals would share a word of k letters
   parted : (k : ℕ) (Y : ℕ → Bool) → SetPredictable S Y k → (v : List ℕ) → k ≤ length v → (x y : ℕ) → Y x ≡ true → Y y ≡ true → Spells S x v
@@ -75,16 +76,16 @@ module _ (S : Semiautomaton) (X : ℕ → Bool) where
   ]
 
   -- with k later letters two possible states are the same
-  pub possible-unique : (k : ℕ) → SetPredictable S X k → Predictable S k → (w : List ℕ) (i x y : ℕ) → i + k ≤ length w → Possible S X w i x
-      → Possible S X w i y → x ≡ y
-  possible-unique k q P w zero x y h c d =
+  pub possible-unique : Reached S X → (k : ℕ) → SetPredictable S X k → Predictable S k
+      → (w : List ℕ) (i x y : ℕ) → i + k ≤ length w → Possible S X w i x → Possible S X w i y → x ≡ y
+  possible-unique access k q P w zero x y h c d =
       parted k X q w (omega arith) x y (rw (c .before) at (c .from-it)) (rw (d .before) at (d .from-it)) (c .after) (d .after)
-  possible-unique k q P w (suc i) x y h c d =
+  possible-unique access k q P w (suc i) x y h c d =
       let (r, c′, e) = possible-before w i x (omega arith) c in
       let (u, d′, f) = possible-before w i y (omega arith) d in
-      let same : u ≡ r = possible-unique k q P w i u r (omega arith) d′ c′ in
-      parted k (S .edge r (getD w i 0)) (P (fork r (getD w i 0)) (fork-counts c′ e)) (drop (suc i) w) (rw length-drop (omega arith)) x y e
-      (rw same at f) (c .after) (d .after)
+      let same : u ≡ r = possible-unique access k q P w i u r (omega arith) d′ c′ in
+      let enough = P (fork r (getD w i 0)) (fork-counts access c′ e) in
+      parted k (S .edge r (getD w i 0)) enough (drop (suc i) w) (rw length-drop (omega arith)) x y e (rw same at f) (c .after) (d .after)
 
   -- where b is the only possible state at position j of w, a longer walk may be taken to begin there, in b
   module _ (w v : List ℕ) (j b : ℕ) (h : j ≤ length w) (is : Possible S X w j b) (only : (x : ℕ) → Possible S X w j x → x ≡ b) where

@@ -11,7 +11,7 @@ use lib.Seq.{length-take-le}
 use Rattle.semiautomata.specs.Semiautomaton.{Semiautomaton, Within, Path, Sub}
 use Rattle.semiautomata.specs.Predictability.{Critical, initial, fork, member, Counts, Share, Rivals, Clash, SetPredictable, Need}
 use Rattle.semiautomata.specs.Predictability.{Predictable, Lookahead, Unpredictable}
-use Rattle.semiautomata.proofs.Paths.{path-sub, spells-after, spells-take}
+use Rattle.semiautomata.proofs.Paths.{path-sub, accessible-sub, spells-after, spells-take}
 
 pub rivals-swap : {X : ℕ → Bool} {s t : ℕ} → Rivals X s t → Rivals X t s
 rivals-swap r = record { left = r .right; right = r .left; differ = λ e. r .differ (sym e) }
@@ -118,4 +118,4 @@ predictable-sub {S} {L} i p T c h = p T (counts-sub T c) (record {
 
     counts-sub : (T : Critical) → Counts S T → Counts L T
     counts-sub initial c = tt
-    counts-sub (fork q a) (t, e) = (t, i .edge-in q a t e)
+    counts-sub (fork q a) (c, (t, e)) = (accessible-sub i c, (t, i .edge-in q a t e))

@@ -4,6 +4,8 @@ use mathlib.Core.Logic.{inl, inr}
 use Rattle.semiautomata.specs.Semiautomaton.{Semiautomaton}
 use Rattle.semiautomata.specs.Theorems.{Theorems}
 use Rattle.semiautomata.proofs.Shares as shares
+use Rattle.semiautomata.proofs.Access as access
+use Rattle.semiautomata.proofs.Wide as wide
 use Rattle.semiautomata.proofs.Bound as bounds
 use Rattle.semiautomata.proofs.Levels as levels
 use Rattle.semiautomata.proofs.Decide as decide
@@ -26,6 +28,14 @@ theorems S = record {
   need-either = decide.need-either S;
   smaller-shares = λ L i j s t. shares.share-sub i;
   smaller-needs = λ L i k. shares.predictable-sub i;
+  accessible-is = λ W q. (access.accessible-out S q, access.accessible-in S W q);
+  never-more = wide.never-more S;
+  wide-missing = wide.wide-missing S;
+  trimmed = wide.trim-lookahead S;
+  trimmed-missing = wide.trim-unpredictable S;
+  trimmed-within = wide.trim-within S;
+  trimmed-accessible = wide.trim-accessible S;
+  trimmed-edge = wide.trim-edge-out S;
   level = λ W j s t. (levels.live-out S j s t, levels.live-in S W);
   level-set = λ W X below j. (decide.clashIn-out S X j, decide.clashIn-in S W X below j);
   level-counts = λ W T. (decide.counts-out S T, decide.counts-in S W T);
@@ -38,7 +48,7 @@ theorems S = record {
   longest-unique = computed.longest-unique S;
   longest-is = computed.longest-is S;
   whole-walk = λ w o i x h. (positions.whole-out S w o i x, positions.whole-in S w o i x h);
-  accessible = positions.possible-accessible S;
+  possible-accessible = positions.possible-accessible S;
   never-grow = positions.possible-earlier S;
   survivors-is = λ W X below w t. (verdicts.survivors-out S W X below w t, verdicts.survivors-in S W X below w t);
   selector-is = λ W X below w. (verdicts.selector-out S W X below w, verdicts.selector-in S W X below w);

@@ -1,7 +1,9 @@
 pub mod Lists
 pub mod Semiautomaton
+pub mod Access
 pub mod Sizes
 pub mod Predictability
+pub mod Wide
 pub mod Walks
 pub mod Selectors
 pub mod Levels

@@ -35,6 +35,10 @@ pub record Accessible (S : Semiautomaton) (q : ℕ) : Type 0 where
   pub word : List ℕ
   pub path : Path S start word q
 
+-- Some walk reaches the set X: every state of it is accessible.
+abbrev pub Reached : Semiautomaton → (ℕ → Bool) → Type 0
+Reached S X = (s : ℕ) → X s ≡ true → Accessible S s
+
 -- S has no initial state and no edge that L has not.
 pub record Sub (S L : Semiautomaton) : Type 0 where
   pub initial-in : (s : ℕ) → S .initial s ≡ true → L .initial s ≡ true

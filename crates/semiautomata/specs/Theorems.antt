@@ -9,6 +9,8 @@ use lib.ListN.{length}
 use Rattle.semiautomata.specs.Semiautomaton.{Semiautomaton, Within, Spells, Accessible, Sub}
 use Rattle.semiautomata.specs.Predictability.{Critical, Counts, Share, Clash, SomeClash, SetPredictable, Need, Predictable, Lookahead}
 use Rattle.semiautomata.specs.Predictability.{Unpredictable, Claim, Witness}
+use Rattle.semiautomata.specs.Access.{accessible, trim}
+use Rattle.semiautomata.specs.Wide.{LookaheadWide, UnpredictableWide}
 use Rattle.semiautomata.specs.Levels.{live, counts, clashIn, clash, Repeats}
 use Rattle.semiautomata.specs.Walks.{Walkable, OnPlan, Longest, Possible, PossibleAt, spells, survivors, walkable, possible, longest}
 use Rattle.semiautomata.specs.Selectors.{Survives, Selector, MinimalSelector, MaximalNonselector, selector, minimalSelector}
@@ -40,6 +42,19 @@ pub record Theorems (S : Semiautomaton) : Type 0 where
   -- a smaller semiautomaton shares no more words, so it needs no more letters
   pub smaller-shares : (L : Semiautomaton) → Sub S L → (j s t : ℕ) → Share S j s t → Share L j s t
   pub smaller-needs : (L : Semiautomaton) → Sub S L → (k : ℕ) → Predictable L k → Predictable S k
+  -- ACCESSIBLE STATES (W-202)
+  -- the test that computes says what it means
+  pub accessible-is : Within S → (q : ℕ) → (accessible S q ≡ true) ↔ Accessible S q
+  -- the sets that count ask for no more letters than all sets do, and no k is missing where these have one
+  pub never-more : (j k : ℕ) → Lookahead S j → LookaheadWide S k → j ≤ k
+  pub wide-missing : Unpredictable S → UnpredictableWide S
+  -- 003 compared: the look-ahead of S is exactly 003's of S without its unreachable states, and there is none where 003 has none
+  pub trimmed : Within S → (k : ℕ) → Lookahead S k ↔ LookaheadWide (trim S) k
+  pub trimmed-missing : Within S → Unpredictable S ↔ UnpredictableWide (trim S)
+  -- what is left is a semiautomaton of the same accessible states, and every state of an edge is one of them
+  pub trimmed-within : Within S → Within (trim S)
+  pub trimmed-accessible : Within S → (q : ℕ) → Accessible S q ↔ Accessible (trim S) q
+  pub trimmed-edge : (q a t : ℕ) → trim S .edge q a t ≡ true → Accessible S q × Accessible S t
   -- LEVELS
   -- level j has the pairs that share a word of j letters; a clash at level j is two rivals among them
   pub level : Within S → (j s t : ℕ) → (live S j s t ≡ true) ↔ Share S j s t
@@ -59,7 +74,7 @@ pub record Theorems (S : Semiautomaton) : Type 0 where
   pub longest-is : Within S → (s : ℕ) → S .initial s ≡ true → (w : List ℕ) → Longest S w (longest S w)
   -- where the whole walk is on the plan, its possible states are those of its letters walked from the initial states; they are accessible
   pub whole-walk : (w : List ℕ) → OnPlan S w → (i x : ℕ) → i ≤ length w → PossibleAt S w i x ↔ Possible S (S .initial) w i x
-  pub accessible : (w : List ℕ) (i x : ℕ) → Possible S (S .initial) w i x → Accessible S x
+  pub possible-accessible : (w : List ℕ) (i x : ℕ) → Possible S (S .initial) w i x → Accessible S x
   -- Theorem 3's sets never grow with later letters
   pub never-grow : (X : ℕ → Bool) (w v : List ℕ) (i x : ℕ) → i ≤ length w → Possible S X (w ++ v) i x → Possible S X w i x
   -- VERDICTS, for any set of states: the tests that compute say what they mean

@@ -277,6 +277,9 @@ module _ (S : Semiautomaton) (W : Within S) (k : ℕ) (P : Predictable S k) wher
     pub demand3 : (offered : List ℕ) → Demand3 S k offered (streamed S k offered)
     demand3 offered = rw (streamed-plain S W k P s e offered) (plain-demand3 offered)
 
+    pub fresh-refusals : (offered : List ℕ) → Only11to13 (streamed S k offered)
+    fresh-refusals offered = rw (streamed-plain S W k P s e offered) (plain-refusals S k offered)
+
     -- ending gives the possible states of the whole walk at the positions that are not resolved
     pub finish-whole : (offered : List ℕ) → finish S k (recordAfter S k offered) ≡ unresolved S k (S .initial) (plainTaken S k offered)
     finish-whole offered = finish-follows (recordAfter S k offered) (plainTaken S k offered) (record-follows S W k P s e offered)

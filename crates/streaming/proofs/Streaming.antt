@@ -16,7 +16,7 @@ use borrow.Author.Tests.{ltb-true, ltb-false, lt-ltb, le-ltb, le-leb, ne-eqb, le
 use Rattle.bitset.specs.Sets.{size, single}
 use Rattle.bitset.proofs.Tests.{and-out, decided, same-test}
 use Rattle.bitset.proofs.Below.{any-in, any-out, any-none, size-empty, size-two, size-other, Sole, sole-size, size-sole, least-sole}
-use Rattle.semiautomata.specs.Semiautomaton.{Semiautomaton, Within}
+use Rattle.semiautomata.specs.Semiautomaton.{Semiautomaton, Within, Accessible, Reached}
 use Rattle.semiautomata.specs.Predictability.{initial, SetPredictable, Predictable}
 use Rattle.semiautomata.specs.Walks.{Walkable, OnPlan, Possible, TwoPossible, Only, walkable, possible}
 use Rattle.streaming.specs.Calls.{refused, nothing}
@@ -24,6 +24,7 @@ use Rattle.refusals.specs.Checks.{firstOf}
 use Rattle.streaming.specs.PlainWalk.{limit, stateAt, plainReply, plainChecks, plainFeed, plain, plainTaken}
 use Rattle.streaming.specs.Streaming.{Rec, base, rules, every, sound, latest, soleAt, settle, Undecided, settled, unopened}
 use Rattle.streaming.specs.Streaming.{openChecks, opened, feedChecks, feed, UndecidedBy, streamed, recordAfter}
+use Rattle.semiautomata.proofs.Paths.{initial-accessible}
 use Rattle.semiautomata.proofs.Computed.{walkable-out, walkable-in, possible-out, possible-in}
 use Rattle.semiautomata.proofs.Positions.{single-is, possible-lt, some-possible, possible-unique, restart-walkable, resume-walkable}
 use Rattle.semiautomata.proofs.Positions.{restart-possible, resume-possible, whole-in, whole-out}
@@ -165,21 +166,25 @@ module _ (S : Semiautomaton) (W : Within S) (k : ℕ) where
 
 module _ (S : Semiautomaton) (W : Within S) (k : ℕ) (P : Predictable S k) where
   -- WHERE k LETTERS FOLLOW, ONE STATE IS POSSIBLE
-  module _ (X : ℕ → Bool) (below : (s : ℕ) → X s ≡ true → s < S .n) (q : SetPredictable S X k) where
+  module _ (X : ℕ → Bool) (below : (s : ℕ) → X s ≡ true → s < S .n) (access : Reached S X) (q : SetPredictable S X k) where
     pub sole-possible : (w : List ℕ) (i : ℕ) → Walkable S X w → i + k ≤ length w
         → (x : ℕ) × Possible S X w i x × Sole (S .n) (possible S X w i) x
     sole-possible w i o h =
         let (x, c) = some-possible S X w i o in
-        (x, c, possible-sole S W X below w i x c (λ y d. possible-unique S X k q P w i y x h d c))
+        (x, c, possible-sole S W X below w i x c (λ y d. possible-unique S X access k q P w i y x h d c))
 
   initial-predictable : SetPredictable S (S .initial) k
   initial-predictable = P initial tt
+
+  initial-sole : (w : List ℕ) (i : ℕ) → OnPlan S w → i + k ≤ length w
+      → (x : ℕ) × Possible S (S .initial) w i x × Sole (S .n) (possible S (S .initial) w i) x
+  initial-sole = sole-possible (S .initial) (W .initial-lt) initial-accessible initial-predictable
 
   -- in a walk that is on the plan, a position with k later letters has one possible state
   pub only-state : (w : List ℕ) (i : ℕ) → OnPlan S w → i + k ≤ length w → Only S w i (stateAt S w i)
   unfolding stateAt
   only-state w i o h =
-      let (x, c, s) = sole-possible (S .initial) (W .initial-lt) initial-predictable w i o h in
+      let (x, c, s) = initial-sole w i o h in
       rw (least-sole (S .n) (possible S (S .initial) w i) x s) (record {
         is = whole-in S w o i x (omega arith) c;
         only = λ y d. let d = whole-out S w o i y d in
@@ -219,7 +224,7 @@ module _ (S : Semiautomaton) (W : Within S) (k : ℕ) (P : Predictable S k) wher
       let fits : j ≤ length w = omega arith in
       let is : Possible S (S .initial) w j b = f .last-is h in
       let only : (x : ℕ) → Possible S (S .initial) w j x → x ≡ b =
-      λ x c. possible-unique S (S .initial) k initial-predictable P w j x b (omega arith) c is in
+      λ x c. possible-unique S (S .initial) initial-accessible k initial-predictable P w j x b (omega arith) c is in
       let more : ltb (r .fed) k ≡ false = le-ltb (r .fed) k (omega arith) in
       let b-lt : b < S .n = possible-lt S (S .initial) W (W .initial-lt) is in
       record {
@@ -282,7 +287,7 @@ module _ (S : Semiautomaton) (W : Within S) (k : ℕ) (P : Predictable S k) wher
           })
       go (inr e) =
           let le : k ≤ length w = ltb-false (length w) k e in
-          let (x, c, s) = sole-possible (S .initial) (W .initial-lt) initial-predictable w (length w - k) o (omega arith) in
+          let (x, c, s) = initial-sole w (length w - k) o (omega arith) in
           let one : soleAt S X u (length u - k) ≡ some x = sole-at S X u (length u - k) x (rw same s) in
           let is = least-sole (S .n) (possible S (S .initial) w (length w - k)) x s in
           rw (l, settle, e, one, is)
@@ -343,7 +348,7 @@ module _ (S : Semiautomaton) (W : Within S) (k : ℕ) (P : Predictable S k) wher
         go (inl q) = let x = rw (opened-agrees .reply, plainReply, q) at h in let z : _≡_ {A = ℕ} 0 1 = cc in omega arith
         go (inr q) = let x = rw (opened-agrees .reply, plainReply, q) at h in let z : _≡_ {A = ℕ} 0 1 = cc in omega arith
 
-  -- 14 ON NO RECORD AT ALL
+  -- 14 ON NO RECORD WHOSE BASE SOME WALK REACHES
   -- the base of a record is k-predictable
   base-predictable : (r : Rec) → SetPredictable S (base S k r) k
   unfolding base
@@ -355,11 +360,20 @@ module _ (S : Semiautomaton) (W : Within S) (k : ℕ) (P : Predictable S k) wher
           c .rivals .differ (is (c .s) (c .rivals .left) ∙ sym (is (c .t) (c .rivals .right))))
 
   -- k letters follow the position that is due, so two states are not possible there
-  pub never-14 : (r : Rec) (a : ℕ) → ¬ (feed S k r a .reply ≡ refused 14)
-  never-14 r a e =
+  pub never-14 : (r : Rec) → Reached S (base S k r) → (a : ℕ) → ¬ (feed S k r a .reply ≡ refused 14)
+  never-14 r access a e =
       let (z, u) = feeding-14 S W k r a .0 e in
       let t = u .two in
       let g = taken S W k r a (first-passed 13 (feedChecks S k r a) refl z) .regular in
       let w : List ℕ = r .held ++ (a ∷ []) in
       let follow : length w - k + k ≤ length w = omega (arith, length-snoc (r .held) a, g .held-are, u .due) in
-      t .differ (possible-unique S (base S k r) k (base-predictable r) P w (length w - k) (t .x) (t .y) follow (t .one) (t .other))
+      t .differ (possible-unique S (base S k r) access k (base-predictable r) P w (length w - k) (t .x) (t .y) follow (t .one) (t .other))
+
+-- some walk reaches the initial states, and the base where it reaches the last resolved state
+pub base-reached : (S : Semiautomaton) (k : ℕ) (r : Rec) → (k ≤ r .fed → Accessible S (r .last)) → Reached S (base S k r)
+unfolding base
+base-reached S k r access = go (decided (ltb (r .fed) k))
+  where
+    go : (ltb (r .fed) k ≡ true) ⊎ (ltb (r .fed) k ≡ false) → Reached S (base S k r)
+    go (inl e) = rw e initial-accessible
+    go (inr e) = rw e (λ s h. rw (single-is (r .last) s h) (access (ltb-false (r .fed) k e)))

@@ -7,7 +7,8 @@ use mathlib.Core.List.{List}
 use lib.Dec.{leb}
 use lib.ListN.{length, getD, drop}
 use Rattle.bitset.specs.Sets.{any}
-use Rattle.bitset.specs.Numbers.{setOf}
+use Rattle.bitset.specs.Numbers.{has, setOf}
+use Rattle.semiautomata.specs.Successors.{setAt}
 
 -- some letter of the word is not below m, wherever it stands.
 abbrev pub letterOff : ℕ → List ℕ → Bool
@@ -21,3 +22,7 @@ pub record Letters (m : ℕ) (word : List ℕ) : Type 0 where
 pub record Written (n : ℕ) (word : List ℕ) (f : ℕ → ℕ → Bool) (old out : List ℕ) : Type 0 where
   pub sets : (i : ℕ) → i ≤ length word → getD out i 0 ≡ setOf n (f i)
   pub kept : drop (suc (length word)) out ≡ drop (suc (length word)) old
+
+-- the states that some letter below i leads to from s
+abbrev pub ledBy : ℕ → List ℕ → ℕ → ℕ → ℕ → Bool
+ledBy m sets s i t = any i (λ a. has (setAt m sets s a) t)

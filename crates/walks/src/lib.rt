@@ -1,6 +1,6 @@
 // Walks over successor sets, wherever these stand: in a table (lent as `&table[SETS_FROM..]`) or just loaded from a plan, and whatever the
 // initial states are. The letters of a word are tested (`letter_off`); one letter forth (`gather`) and back (`back`), a word (`reach_by`,
-// `survivors_with`, `survivors_of`), every position of a word (`trace`).
+// `survivors_with`, `survivors_of`), every position of a word (`trace`), any word from the initial states (`reachable`).
 ghost use mathlib.Core.Path.{_≡_};
 ghost use mathlib.Core.Bool.{_&&_};
 ghost use mathlib.Core.List.{[], _∷_, _++_};
@@ -8,9 +8,10 @@ ghost use Prim.Native.Nat.{ℕ, suc, _^_, _≤_, _<_};
 ghost use lib.ListN.{length, getD, take};
 ghost use Rattle.bitset.specs.Sets.{any, size};
 ghost use Rattle.bitset.specs.Numbers.{has, setOf};
+ghost use Rattle.semiautomata.specs.Access.{accessible};
 ghost use Rattle.semiautomata.specs.Walks.{step, reach, survivors, possible, longest};
 ghost use Rattle.semiautomata.specs.Successors.{place, successors, Fit};
-ghost use Rattle.walks.specs.Walking.{letterOff, Letters, Written};
+ghost use Rattle.walks.specs.Walking.{letterOff, Letters, Written, ledBy};
 
 // Whether some letter of the word is not below m.
 pub fn letter_off(word: &[u8], m: u64) -> bool
@@ -159,4 +160,32 @@ pub fn trace(sets: &[u64], n: usize, m: usize, set: u64, word: &[u8], out: &mut 
     let g = forward(sets, n, m, set, word, out);
     backward(sets, n, m, set, &word[..g], out);
     g
+}
+
+// The states that some letter leads to from s.
+fn leads_to(sets: &[u64], n: usize, m: usize, s: usize) -> u64
+    requires { ⌜ Fit n m (now sets) × (s < n) ⌝ }
+    ensures { λ r. ⌜ r ≡ setOf n (ledBy m (now (sets .entry)) s m) ⌝ }
+{
+    let mut out: u64 = 0;
+    for a in 0..m {
+        out |= sets[s * m + a];
+    }
+    out
+}
+
+// The states that some walk from an initial state reaches: the least of what is to do is taken and what its letters lead to is joined,
+// until nothing is to do. To do is what is seen and not done.
+pub fn reachable(sets: &[u64], n: usize, m: usize, starts: u64) -> u64
+    requires { ⌜ Fit n m (now sets) × (starts < 2 ^ n) ⌝ }
+    ensures { λ r. ⌜ r ≡ setOf n (accessible (successors n m starts (now (sets .entry)))) ⌝ }
+{
+    let mut seen = starts;
+    let mut done: u64 = 0;
+    while seen != done {
+        let s = u64::trailing_zeros(seen ^ done) as usize;
+        done |= 1 << s;
+        seen |= leads_to(sets, n, m, s);
+    }
+    seen
 }

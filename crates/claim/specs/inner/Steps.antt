@@ -2,19 +2,19 @@
 -- Assumes nothing.
 use Prim.Native.Nat.{ℕ}
 use mathlib.Core.Bool.{Bool, true, false}
-use mathlib.Core.Option.{some, none}
+use mathlib.Core.Option.{some}
 use mathlib.Core.Path.{_≡_}
 use mathlib.Core.List.{List}
-use Rattle.bitset.specs.Numbers.{has, setOf}
+use Rattle.bitset.specs.Numbers.{has}
 use Rattle.semiautomata.specs.Semiautomaton.{Semiautomaton, Path}
-use Rattle.semiautomata.specs.Predictability.{Critical, member, named, Lasso}
+use Rattle.semiautomata.specs.Predictability.{Critical, member, named, Counts, Lasso}
 use Rattle.lookahead.specs.declared.Evidence.{Evidence}
 use Rattle.lookahead.specs.Answers.{TrueOf}
 
--- The number is the set that two numbers name; 0 where they name none.
+-- The number has exactly the states of the critical set that two numbers name, if it counts; else none.
 pub record NamedSet (S : Semiautomaton) (q a set : ℕ) : Type 0 where
-  pub some-set : (T : Critical) → named S q a ≡ some T → set ≡ setOf (S .n) (member S T)
-  pub no-set : named S q a ≡ none → set ≡ 0
+  pub from : (x : ℕ) → has set x ≡ true → (T : Critical) × (named S q a ≡ some T) × Counts S T × (member S T x ≡ true)
+  pub into : (T : Critical) → named S q a ≡ some T → Counts S T → (x : ℕ) → member S T x ≡ true → has set x ≡ true
 
 -- The answer says whether some member of the set is led back to itself by the cycle.
 pub record LedBack (S : Semiautomaton) (set : ℕ) (cycle : List ℕ) (r : Bool) : Type 0 where

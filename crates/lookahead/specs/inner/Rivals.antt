@@ -1,15 +1,16 @@
 -- Rivals: two different states of one critical set that counts, as rows and by a name. What the inner functions promise each other.
 -- Assumes nothing.
 use Prim.Native.Nat.{ℕ, _<_}
-use mathlib.Core.Bool.{true, _&&_, _||_}
+use mathlib.Core.Bool.{Bool, true, _&&_, _||_}
 use mathlib.Core.Option.{some}
 use mathlib.Core.Path.{_≡_}
 use mathlib.Core.List.{List}
 use lib.ListN.{length}
+use Rattle.bitset.specs.Sets.{any}
 use Rattle.bitset.specs.Numbers.{has}
 use Rattle.semiautomata.specs.Semiautomaton.{Semiautomaton}
 use Rattle.semiautomata.specs.Predictability.{Critical, member, named, Counts}
-use Rattle.semiautomata.specs.Successors.{successors}
+use Rattle.semiautomata.specs.Successors.{setAt, successors}
 use Rattle.rows.specs.Rows.{pair}
 use Rattle.pairs.specs.Sharing.{Lasting}
 
@@ -30,7 +31,16 @@ pub record Matched (set : ℕ) (old new : List ℕ) : Type 0 where
   pub long : length new ≡ length old
   pub is : (s t : ℕ) → ¬ (s ≡ t) → pair new s t ≡ (pair old s t || has set s && has set t)
 
--- two different states are a pair of the rows exactly if they are together in some critical set
+-- letter a leads to both s and t from q
+abbrev pub both : ℕ → List ℕ → ℕ → ℕ → ℕ → ℕ → Bool
+both m sets q s t a = has (setAt m sets q a) s && has (setAt m sets q a) t
+
+-- so are the different states of each fork set of q, by a letter below i
+pub record Forked (m : ℕ) (sets : List ℕ) (q i : ℕ) (old new : List ℕ) : Type 0 where
+  pub long : length new ≡ length old
+  pub is : (s t : ℕ) → ¬ (s ≡ t) → pair new s t ≡ (pair old s t || any i (both m sets q s t))
+
+-- two different states are a pair of the rows exactly if they are together in some critical set that counts
 pub record Rivalry (S : Semiautomaton) (rows : List ℕ) : Type 0 where
   pub from : (s t : ℕ) → ¬ (s ≡ t) → pair rows s t ≡ true → Together S s t
   pub into : (s t : ℕ) → ¬ (s ≡ t) → Together S s t → pair rows s t ≡ true

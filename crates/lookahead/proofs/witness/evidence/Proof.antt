@@ -17,11 +17,11 @@ use Rattle.lookahead.proofs.witness.evidence.Statement.{statement}
 use Rattle.lookahead.proofs.witness.evidence.Tie as tie
 
 abbrev Inv-loop : tie.InvT-loop
-Inv-loop sets n m starts live low high letters₀ set seen₀ x₀ y₀ at₀ i₀ letters seen x y at i =
+Inv-loop sets n m starts reached live low high letters₀ set seen₀ x₀ y₀ at₀ i₀ letters seen x y at i =
     (at ≡ place n x y) × Trail (successors n m starts sets) live low high letters₀ letters seen x y i
 
 abbrev μ-loop : tie.MeasureT-loop
-μ-loop sets n m starts live low high letters₀ set seen₀ x₀ y₀ at₀ i₀ letters seen x y at i = n * n - i
+μ-loop sets n m starts reached live low high letters₀ set seen₀ x₀ y₀ at₀ i₀ letters seen x y at i = n * n - i
 
 -- from the loop back to the start, and from the step found to the turn
 abbrev start : tie.At-loop Inv-loop μ-loop → tie.Start Inv-loop μ-loop
@@ -126,7 +126,7 @@ evidence-spec =
     (tie.spec
     Inv-loop
     μ-loop
-    (λ c κs. let p = c .before .before .pre in (p .1 .0, p .1 .1, p .0 .together))
+    (λ c κs. let p = c .before .before .pre in (p .1 .0, p .1 .1, p .0 .together, p .1 .3))
     (λ c. omega (arith, begin-small (c .before .before .before)))
     (λ c. omega (arith, begin-small (c .before .before .before)))
     (λ c. let s = c .before .before .before in (refl, trail-first (W s) 4096 (square s) (low-lt s) (high-lt s) (s .pre .0 .lasts)))
