@@ -303,6 +303,8 @@ static void on_this_plan(uint32_t expected, size_t legs)
     evidence[GAWHERINO_EVIDENCE_LOOP] = 1;
     letters[0] = letters[1] = 0;
     measure(CHECK);
+    evidence[GAWHERINO_EVIDENCE_STAKE] = n - 1; /* a fork, which may not count */
+    measure(CHECK);
     /* a walk: of codes in any order those that are taken, and all that are refused on the way; then the same as a whole walk */
     measure(OPEN);
     measure(FINISH);
@@ -358,7 +360,7 @@ int main(void)
     lettered("0;001;101;102", 3, 1), every_call(1, 20);
     lettered("0;000;001;101", 2, 1), every_call(NONE, 20);
     lettered("01;002;102;213", 4, 2), every_call(3, 20);
-    lettered("0;000;101;102;202", 3, 1), every_call(NONE, 20);
+    lettered("0;000;101;102;202", 3, 1), every_call(0, 20);
     lettered("", 1, 1), every_call(0, 20);
     lettered("01", 2, 1), every_call(1, 20);
     lettered("01;001;102;110;212", 3, 2), every_call(3, 20);

@@ -62,7 +62,7 @@ fn written(r: &mut Random, drawn: &Draft) -> Vec<Case> {
     cases
 }
 
-/// The name of a critical set, mostly one of several stakes, sometimes off the plan.
+/// The name of a critical set, whether it counts or not, mostly one of several stakes, sometimes off the plan.
 fn set_name(r: &mut Random, plan: &Plan) -> (u32, u32) {
     let (stake, code) = (r.below(plan.n) as u32, r.below(plan.m) as u32);
     let (n, m) = (plan.n as u32, plan.m as u32);
@@ -73,7 +73,7 @@ fn set_name(r: &mut Random, plan: &Plan) -> (u32, u32) {
     if r.percent(20) {
         return (stake, code);
     }
-    let mut sets = plan.critical_sets();
+    let mut sets = plan.every_set();
     if r.percent(85) && sets.iter().any(|(_, set)| size(set) > 1) {
         sets.retain(|(_, set)| size(set) > 1);
     }
@@ -156,10 +156,13 @@ pub fn batch(r: &mut Random) -> (Vec<u8>, Vec<Case>) {
         cases.push(r.pick(&calls));
     }
     cases.extend(written(r, &draft));
-    // claims: true ones with others near to them, and any
+    // claims: true ones with others near to them, those that would be true if every set counted, and any
     let mut claims = vec![claims::any(r, &plan), claims::any(r, &plan)];
     if let Some((evidence, codes)) = claim::example(&plan, &mut |ways| r.below(ways)) {
         claims.extend(claims::near(r, &evidence, &codes, n, m, 12));
+    }
+    if let Some((evidence, codes)) = claim::example_of(&plan, &plan.every_set(), &mut |ways| r.below(ways)) {
+        claims.extend(claims::renamed(r, &plan, &evidence, &codes));
     }
     cases.extend(claims.iter().map(|(claim, letters)| Case::check(&bytes, claim, letters)));
     // the prepared plan

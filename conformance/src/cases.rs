@@ -59,6 +59,12 @@ impl Call {
         T::slice(&self.given[self.place(name).expect(name)])
     }
 
+    pub fn number(&self, name: &str) -> u32 {
+        let given = &self.given[self.place(name).expect(name)];
+        let &Given::Number(number) = given else { panic!("{given:?} is no number") };
+        number as u32
+    }
+
     /// Writes the beginning of a slice.
     pub fn write<T: Element>(&mut self, name: &str, beginning: &[T]) {
         let place = self.place(name).expect(name);
@@ -74,7 +80,7 @@ impl Call {
     /// Runs it on the reference and on a subject.
     fn compare(&self, subject: &dyn Calls) -> Result<Vec<String>, String> {
         let mut expected = self.on(&Reference);
-        let met = met(&expected, why());
+        let met = met(self, &expected, why());
         let given = self.on(subject);
         if expected.reply == REFUSED + 15 && given.reply == expected.reply && self.place("evidence").is_some() {
             self.check_evidence(&given.left, subject)?;

@@ -1,9 +1,15 @@
 //! The classes of replies: which one a call's outcome is of, and all that a run must meet, since a comparison that never met a case proves
 //! nothing about it.
 
-use crate::cases::Outcome;
+use crate::cases::{Call, Outcome};
 use crate::forms::plan::{length, number, E, HEADER, LINE, LINES_AT, P, STARTS_AT, TOTAL};
-use crate::forms::{table, GROUPS, MAX_LINES, MAX_STAKES, NOTHING, REFUSED};
+use crate::forms::record::{legs, BOOKED};
+use crate::forms::{table, GROUPS, MAX_LINES, MAX_STAKES, NOTHING, REFUSED, STARTS};
+use crate::reference::claim::holds_of_any_set;
+use crate::reference::lookahead::{least, look_ahead};
+use crate::reference::plan::{read, Name, Plan};
+use crate::reference::table::plan_of;
+use crate::reference::{size, Stakes};
 
 /// The class of a count.
 pub fn count_class(k: u32) -> &'static str {
@@ -17,19 +23,26 @@ pub fn count_class(k: u32) -> &'static str {
     }
 }
 
-/// The classes of what the reference gave: that of the reply, and for writing those of what it was given.
-pub fn met(outcome: &Outcome, why: &str) -> Vec<String> {
+/// The classes of what the reference gave for a call: that of the reply, and those of what the call was given.
+pub fn met(call: &Call, outcome: &Outcome, why: &str) -> Vec<String> {
+    let name = call.what.name;
+    let further = match (name, outcome.reply.checked_sub(REFUSED)) {
+        ("write", None) => to_write(call.slice("plan"), outcome.left.slice::<u8>("out").len()),
+        ("write", Some(9)) => too_short(call.slice("plan"), outcome.left.slice::<u8>("out").len()),
+        ("prepare" | "look_ahead" | "count", None | Some(15)) => narrowed(&plan_given(call), outcome.reply),
+        ("check", None) => claimed(&plan_given(call), call.slice("claim"), call.slice("letters")),
+        ("judge", None) => judged(call),
+        ("feed" | "finish", None | Some(14)) => based(call, outcome.reply),
+        _ => vec![],
+    };
     let mut met = vec![class(outcome, why)];
-    if outcome.left.what.name == "write" {
-        let (plan, out): (&[u8], &[u8]) = (outcome.left.slice("plan"), outcome.left.slice("out"));
-        let further = match outcome.reply.checked_sub(REFUSED) {
-            None => to_write(plan, out.len()),
-            Some(9) => too_short(plan, out.len()),
-            Some(_) => vec![],
-        };
-        met.extend(further.iter().map(|class| format!("write {class}")));
-    }
+    met.extend(further.iter().map(|class| format!("{name} {class}")));
     met
+}
+
+/// Of a list of classes those that apply.
+fn applying(classes: &[(&'static str, bool)]) -> Vec<&'static str> {
+    classes.iter().filter(|class| class.1).map(|class| class.0).collect()
 }
 
 /// Of a plan that was written: in which ways it was not in its one form, and how much was lent.
@@ -38,7 +51,7 @@ fn to_write(plan: &[u8], lent: usize) -> Vec<&'static str> {
     let (starts_end, lines_end) = (starts_at + p, lines_at + LINE * e);
     let lines: Vec<&[u8]> = plan[lines_at..lines_end].chunks(LINE).collect();
     let both = p > 0 && e > 0;
-    let classes = [
+    applying(&[
         ("starts out of order", !plan[starts_at..starts_end].is_sorted()),
         ("lines out of order", !lines.is_sorted()),
         ("lines before the starts", both && lines_at < starts_at),
@@ -53,15 +66,84 @@ fn to_write(plan: &[u8], lent: usize) -> Vec<&'static str> {
         ("room for the form alone", lent == length(p, e)),
         ("more room", lent > length(p, e)),
         ("less room than the plan has bytes", lent < total),
-    ];
-    classes.iter().filter(|class| class.1).map(|class| class.0).collect()
+    ])
 }
 
 /// Of a plan that was refused with 9 at writing: by how much.
 fn too_short(plan: &[u8], lent: usize) -> Vec<&'static str> {
     let needed = length(number(plan, P), number(plan, E));
-    let classes = [("9: short by one", lent + 1 == needed), ("9: nothing lent", lent == 0)];
-    classes.iter().filter(|class| class.1).map(|class| class.0).collect()
+    applying(&[("9: short by one", lent + 1 == needed), ("9: nothing lent", lent == 0)])
+}
+
+/// The plan of bytes that were not refused with 1 to 7.
+fn plan_given(call: &Call) -> Plan {
+    read(call.slice("plan")).expect("passes 1 to 7").plan
+}
+
+/// W-202, of a count or 15: what the forks that don't count would make of it, and whether forks far from the starts decide it.
+fn narrowed(plan: &Plan, reply: u32) -> Vec<&'static str> {
+    let k = (reply < REFUSED).then_some(reply as usize);
+    let (sets, reached, near) = (plan.every_set(), plan.reached(), within(plan, FAR));
+    let least_of = |kept: &dyn Fn(&Name) -> bool| least(plan, &sets.iter().filter(|(name, _)| kept(name)).cloned().collect::<Vec<_>>());
+    let abandoned = least_of(&|&(stake, _)| stake != STARTS && !reached[stake as usize]);
+    let from_near = || least_of(&|&(stake, _)| stake == STARTS || near[stake as usize]);
+    applying(&[
+        ("k less than if every set counted", k.is_some() && k < abandoned),
+        ("k, but 15 if every set counted", k.is_some() && abandoned.is_none()),
+        ("15, also by forks that don't count", k.is_none() && abandoned.is_none()),
+        ("no starts, but a fork of several stakes", size(&plan.starts) == 0 && abandoned != Some(0)),
+        ("decided by a fork far from the starts", near != reached && from_near() != k),
+    ])
+}
+
+/// A fork that more legs than this lead to is far.
+const FAR: usize = 8;
+
+/// The stakes that up to so many legs from a start reach.
+fn within(plan: &Plan, legs: usize) -> Stakes {
+    let mut reached = plan.starts.clone();
+    for _ in 0..legs {
+        let ends: Vec<usize> = plan.lines.iter().flatten().filter(|line| reached[line.0]).map(|line| line.1).collect();
+        ends.into_iter().for_each(|stake| reached[stake] = true);
+    }
+    reached
+}
+
+/// W-202, of a claim that is true but perhaps for the name of its set: whether that counts, and whether other names of the set do.
+fn claimed(plan: &Plan, claim: &[u32], letters: &[u8]) -> Vec<&'static str> {
+    if !holds_of_any_set(plan, claim, letters) {
+        return vec![];
+    }
+    let reached = plan.reached();
+    let counts = |stake: u32| stake == STARTS || reached[stake as usize];
+    let (set, yes) = (plan.named(claim[0], claim[1]), counts(claim[0]));
+    let otherwise = plan.every_set().into_iter().any(|(name, other)| Some(other) == set && counts(name.0) != yes);
+    applying(&[
+        ("no by an unreachable stake's name alone", !yes),
+        ("no, though the set counts under another name", !yes && otherwise),
+        ("yes to a set that an unreachable stake names too", yes && otherwise),
+    ])
+}
+
+/// W-202, of a verdict: whether its set counts.
+fn judged(call: &Call) -> Vec<&'static str> {
+    let (plan, _) = plan_of(call.slice("table")).expect("passes 8");
+    let (state, letter) = (call.number("state"), call.number("letter"));
+    let set = plan.named(state, letter).expect("passes 12");
+    applying(&[("a set of several stakes that doesn't count", state != STARTS && !plan.reached()[state as usize] && size(&set) > 1)])
+}
+
+/// W-202, of a leg or an ending that passes 10: whether some walk reaches the base.
+fn based(call: &Call, reply: u32) -> Vec<&'static str> {
+    let (plan, k) = plan_of(call.slice("table")).expect("passes 8");
+    let rec: &[u8] = call.slice("rec");
+    if (legs(rec) as usize) < k || plan.reached()[rec[BOOKED] as usize] {
+        return vec![];
+    }
+    applying(&[
+        ("from a base that no walk reaches", reply < REFUSED),
+        ("14: a table as preparing makes it, a base that no walk reaches", reply == REFUSED + 14 && look_ahead(&plan) == Some(k)),
+    ])
 }
 
 /// The class of a reply; `why` says which part of a refusal's sentence applied.
@@ -147,15 +229,24 @@ const RECORD: &[&str] = &[
 ];
 const COUNT: &[&str] = &["k 0", "k 1", "k 2", "k 3 to 8", "k 9 to 64", "k above 64"];
 const NO_COUNT: &[&str] = &["15: no k"];
+/// W-202: which critical sets count.
+const NARROWED: &[&str] = &[
+    "k less than if every set counted",
+    "k, but 15 if every set counted",
+    "15, also by forks that don't count",
+    "no starts, but a fork of several stakes",
+    "decided by a fork far from the starts",
+];
 const EVIDENCE: &[&str] = &["9: letters", "9: evidence"];
 
 /// For each call, and for sessions: every answer and every refusal, with each part of a refusal's sentence.
 const CLASSES: &[(&str, &[&[&str]])] = &[
     ("read", &[PLAN, &["counts", "9: counts"]]),
-    ("prepare", &[PLAN, &["9: table"], EVIDENCE, COUNT, NO_COUNT]),
-    ("look_ahead", &[PLAN, EVIDENCE, COUNT, NO_COUNT]),
-    ("count", &[PLAN, COUNT, NO_COUNT]),
-    ("check", &[PLAN, &["yes", "no"]]),
+    ("prepare", &[PLAN, &["9: table"], EVIDENCE, COUNT, NO_COUNT, NARROWED]),
+    ("look_ahead", &[PLAN, EVIDENCE, COUNT, NO_COUNT, NARROWED]),
+    ("count", &[PLAN, COUNT, NO_COUNT, NARROWED]),
+    ("check", &[PLAN, &["yes", "no", "yes to a set that an unreachable stake names too"]]),
+    ("check", &[&["no by an unreachable stake's name alone", "no, though the set counts under another name"]]),
     ("write", &[PLAN, &["9: out", "9: short by one", "9: nothing lent", "in its form already", "put into its form"]]),
     ("write", &[&["starts out of order", "lines out of order", "lines before the starts"]]),
     ("write", &[&["a gap before the parts", "a gap between the parts", "a gap behind the parts"]]),
@@ -166,13 +257,16 @@ const CLASSES: &[(&str, &[&[&str]])] = &[
     ("judge", &[TABLE, &["9: sets", "12: 255 with a code other than 0", "12: the set's name off the plan"]]),
     ("judge", &[&["12: a code of the word not below m", "minimal selector", "selector, not minimal", "nobody can walk it"]]),
     ("judge", &[&["nonselector, maximal for none", "nonselector, maximal for some", "nonselector, maximal for all"]]),
+    ("judge", &[&["a set of several stakes that doesn't count"]]),
     ("open", &[TABLE, &["9: record", "9: position", "13: no starts", "14: two or more starts", "booked", "none booked"]]),
     ("feed", &[TABLE, RECORD, &["9: position", "11: a leg beyond 1,000,000", "12: the leg not below m", "12: the leg above 255"]]),
     ("feed", &[&["13: the leg can't be walked", "14: two or more stakes are possible", "booked", "none booked"]]),
+    ("feed", &[&["from a base that no walk reaches", "14: a table as preparing makes it, a base that no walk reaches"]]),
+    ("finish", &[&["from a base that no walk reaches"]]),
     ("finish", &[TABLE, RECORD, &["9: sets", "no position (k 0)", "fewer than k positions", "k positions"]]),
     ("group", &[&GROUPS]),
     ("session", &[COUNT, &["13 at opening", "with refused legs 12", "with refused legs 13", "with refused legs above 255"]]),
-    ("session with bookings,", &[COUNT]),
+    ("session with bookings,", &[COUNT, &["15 if every set counted"]]),
 ];
 
 /// Every class that a run must meet.

@@ -6,7 +6,7 @@ use crate::cases::{Call, Case, Outcome};
 use crate::classes::count_class;
 use crate::forms::{evidence, letters, record, LENGTH, MAX_LEGS, NOTHING, POSITION, REFUSED};
 use crate::lent::hex;
-use crate::reference::lookahead::look_ahead;
+use crate::reference::lookahead::{least, look_ahead};
 use crate::reference::plan::{read, Read};
 use crate::reference::table::table_of;
 use crate::reference::walk::{plain_walk, possible, Reply};
@@ -96,6 +96,10 @@ impl Session {
         let mut met = vec![format!("session {}", count_class(k as u32))];
         if replies.iter().any(|reply| matches!(reply, Reply::Booked { .. })) {
             met.push(format!("session with bookings, {}", count_class(k as u32)));
+            // W-202
+            if least(&plan, &plan.every_set()).is_none() {
+                met.push("session with bookings, 15 if every set counted".to_string());
+            }
         }
         let refused = (11..=13).filter(|&number| replies.contains(&Reply::Refused(number)));
         met.extend(refused.map(|number| format!("session with refused legs {number}")));

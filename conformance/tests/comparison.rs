@@ -22,7 +22,7 @@ fn check(case: &Case, subject: &dyn Calls, tally: &mut Tally, origin: &str) {
     }
 }
 
-/// The evidence that the subject itself gives for a sound plan, and claims near to it.
+/// The evidence that the subject itself gives for a sound plan, claims near to it, and the same under other names of its set.
 fn own_evidence(plan: &[u8], r: &mut Random, subject: &dyn Calls) -> Vec<Case> {
     let Ok(read) = read(plan) else { return vec![] };
     let meaning = read.plan;
@@ -31,8 +31,9 @@ fn own_evidence(plan: &[u8], r: &mut Random, subject: &dyn Calls) -> Vec<Case> {
         return vec![];
     }
     codes.truncate((claim[evidence::LEAD_IN] + claim[evidence::LOOP]) as usize);
-    let near = claims::near(r, &claim, &codes, meaning.n, meaning.m, 8);
-    near.iter().map(|(claim, letters)| Case::check(plan, claim, letters)).collect()
+    let mut claims = claims::near(r, &claim, &codes, meaning.n, meaning.m, 8);
+    claims.extend(claims::renamed(r, &meaning, &claim, &codes));
+    claims.iter().map(|(claim, letters)| Case::check(plan, claim, letters)).collect()
 }
 
 fn run(subject: &dyn Calls, seconds: u64, shift: u64) {

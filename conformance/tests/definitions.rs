@@ -4,8 +4,9 @@ mod common;
 
 use conformance::random::{bytes, claims, plans, Random};
 use conformance::reference::claim;
-use conformance::reference::lookahead::look_ahead;
+use conformance::reference::lookahead::{least, look_ahead};
 use conformance::reference::plan::{one_form, read, Plan};
+use conformance::reference::record::{feed, Record};
 use conformance::reference::walk::{possible, reach, verdict, whole_walk};
 use conformance::reference::{members, only, size};
 
@@ -33,15 +34,41 @@ fn leads(plan: &Plan, s: usize, word: &[u8], t: usize) -> bool {
     }
 }
 
-/// Definition 1, word by word: the least k up to the bound, or none.
-fn literal_count(plan: &Plan) -> Option<usize> {
-    let bound = plan.n * (plan.n - 1) / 2;
+/// The stakes "that some walk from a start reaches" (W-202): every word of up to n codes is tried from every start.
+fn literal_reached(plan: &Plan) -> Vec<usize> {
+    let words: Vec<Vec<u8>> = (0..=plan.n).flat_map(|length| words(plan.m, length)).collect();
+    let is_reached = |x: &usize| members(&plan.starts).into_iter().any(|s| words.iter().any(|word| leads(plan, s, word, *x)));
+    (0..plan.n).filter(is_reached).collect()
+}
+
+/// A set's stake and code, and its stakes.
+type Named = ((u32, u32), Vec<usize>);
+
+/// The starts, and what each code leads to from each of these stakes, if it leads anywhere.
+fn literal_sets(plan: &Plan, stakes: &[usize]) -> Vec<Named> {
+    let mut sets = vec![((255, 0), members(&plan.starts))];
+    for &stake in stakes {
+        for code in 0..plan.m {
+            let led_to: Vec<usize> = (0..plan.n).filter(|&to| plan.lines[code].contains(&(stake, to))).collect();
+            if !led_to.is_empty() {
+                sets.push(((stake as u32, code as u32), led_to));
+            }
+        }
+    }
+    sets
+}
+
+/// Every set of the plan, as Definition 1 has them.
+fn every_literal_set(plan: &Plan) -> Vec<Named> {
+    literal_sets(plan, &(0..plan.n).collect::<Vec<_>>())
+}
+
+/// Definition 1 over these sets, word by word: the least k up to the bound, or none.
+fn literal_count(plan: &Plan, sets: &[Named]) -> Option<usize> {
+    let bound = plan.n * plan.n.saturating_sub(1) / 2;
     (0..=bound).find(|&k| {
         let shared = |s: usize, t: usize| words(plan.m, k).iter().any(|word| walks(plan, s, word) && walks(plan, t, word));
-        plan.critical_sets().iter().all(|(_, set)| {
-            let stakes = members(set);
-            stakes.iter().all(|&s| stakes.iter().all(|&t| s == t || !shared(s, t)))
-        })
+        sets.iter().all(|(_, stakes)| stakes.iter().all(|&s| stakes.iter().all(|&t| s == t || !shared(s, t))))
     })
 }
 
@@ -64,7 +91,9 @@ fn tiny_plans(how_many: u64) -> impl Iterator<Item = (u64, Random, Plan)> {
 fn the_count_is_the_least_number_without_a_shared_word() {
     let (mut found, mut none) = ([0; 11], 0);
     for (number, _, plan) in tiny_plans(4000) {
-        let literal = literal_count(&plan);
+        let reached = literal_reached(&plan);
+        assert_eq!(members(&plan.reached()), reached, "case {number}: {plan:?}");
+        let literal = literal_count(&plan, &literal_sets(&plan, &reached));
         assert_eq!(look_ahead(&plan), literal, "case {number}: {plan:?}");
         match literal {
             Some(k) => found[k] += 1,
@@ -73,6 +102,69 @@ fn the_count_is_the_least_number_without_a_shared_word() {
     }
     println!("tiny plans with k 0, 1, ..: {found:?}; without: {none}");
     assert!(none > 100 && found[..5].iter().all(|&count| count > 0));
+}
+
+/// W-202: "where we compare with source document 003, we compare after its unreachable stakes are taken out". In what remains every set
+/// counts, and the count is never more than it would be if every set of the whole plan did.
+#[test]
+fn the_count_of_what_remains() {
+    let (mut same, mut less, mut some_for_none) = (0, 0, 0);
+    for (number, _, plan) in tiny_plans(3000) {
+        let kept = literal_reached(&plan);
+        if kept.len() == plan.n {
+            continue;
+        }
+        let name = |stake: usize| kept.iter().position(|&other| other == stake);
+        let among_kept = |lines: &Vec<(usize, usize)>| lines.iter().filter_map(|&(from, to)| Some((name(from)?, name(to)?))).collect();
+        let lines = plan.lines.iter().map(among_kept).collect();
+        let remains = Plan { n: kept.len(), m: plan.m, starts: kept.iter().map(|&stake| plan.starts[stake]).collect(), lines };
+        let count = literal_count(&remains, &every_literal_set(&remains));
+        assert_eq!(look_ahead(&plan), count, "case {number}: {plan:?}");
+        let wide = literal_count(&plan, &every_literal_set(&plan));
+        assert_eq!(least(&plan, &plan.every_set()), wide, "case {number}: {plan:?}");
+        match (count, wide) {
+            (Some(k), Some(wide)) if k < wide => less += 1,
+            (Some(_), None) => some_for_none += 1,
+            _ => {
+                assert_eq!(count, wide, "case {number}: {plan:?}");
+                same += 1;
+            }
+        }
+    }
+    println!("tiny plans with unreachable stakes: {same} with the same count, {less} with a lower one, {some_for_none} with one for none");
+    assert!(same > 50 && less > 50 && some_for_none > 50);
+}
+
+/// Document 01 has 14 "met only with a table not made by preparing"; W-202: it "may now also meet a record whose base no walk reaches".
+/// With the plan's k, every base and all codes that may be held: 10 if they can't be walked, whether a walk reaches the base or not, and 14
+/// for no base that one reaches.
+#[test]
+fn refusal_14_with_the_count_of_the_plan() {
+    let mut met = 0;
+    for (number, _, plan) in tiny_plans(1000) {
+        let Some(k) = look_ahead(&plan) else { continue };
+        let (starts, reached) = (members(&plan.starts), literal_reached(&plan));
+        for legs in 0..=k {
+            for held in words(plan.m, legs) {
+                let codes = [held.as_slice(), &vec![0; k - legs]].concat();
+                // the base is the starts while legs < k, else the booked stake
+                for booked in if legs < k { 255..256 } else { 0..plan.n } {
+                    let base = if legs < k { starts.clone() } else { vec![booked] };
+                    let record = Record { legs: legs as u32, booked: booked as u8, zero: 0, held: legs as u16, codes: codes.clone() };
+                    for code in 0..plan.m as u32 {
+                        let refusal = feed(&plan, k, &record, code).err().map(|refusal| refusal.number);
+                        let can_be_walked = base.iter().any(|&stake| walks(&plan, stake, &held));
+                        assert_eq!(refusal == Some(10), !can_be_walked, "case {number}: {record:?} {plan:?}");
+                        let is_reached = base.iter().all(|stake| reached.contains(stake));
+                        assert!(refusal != Some(14) || !is_reached, "case {number}: {record:?} {code} {plan:?}");
+                        met += (refusal == Some(14)) as u32;
+                    }
+                }
+            }
+        }
+    }
+    println!("14 from a base that no walk reaches: {met}");
+    assert!(met > 50);
 }
 
 #[test]
@@ -92,8 +184,8 @@ fn possible_stakes_and_verdicts_word_by_word() {
                 }
             }
         }
-        // Definition 2
-        let sets = plan.critical_sets();
+        // Definition 2; W-202: "Verdicts may still name any set."
+        let sets = plan.every_set();
         let ((stake, code), set) = r.pick(&sets);
         let given = verdict(&plan, stake, code, &word).expect("the set is on the plan");
         let selects = |word: &[u8]| members(&set).into_iter().filter(|&t| walks(&plan, t, word)).count() == 1;
@@ -137,30 +229,35 @@ fn the_one_form_byte_by_byte() {
 
 #[test]
 fn claims_by_paths() {
-    let (mut yes, mut no) = (0, 0);
+    let (mut yes, mut no, mut by_name) = (0, 0, 0);
     for (number, mut r, plan) in tiny_plans(1500) {
+        let (sets, every) = (literal_sets(&plan, &literal_reached(&plan)), every_literal_set(&plan));
         let mut all = vec![claims::any(&mut r, &plan), claims::any(&mut r, &plan)];
         let mut choose = r.clone();
         if let Some((claim, letters)) = claim::example(&plan, &mut |ways| choose.below(ways)) {
             assert!(claim::holds(&plan, &claim, &letters), "case {number}");
             all.extend(claims::near(&mut r, &claim, &letters, plan.n, plan.m, 10));
         }
+        if let Some((claim, letters)) = claim::example_of(&plan, &plan.every_set(), &mut |ways| choose.below(ways)) {
+            all.extend(claims::renamed(&mut r, &plan, &claim, &letters));
+        }
         for (claim, letters) in all {
             let holds = claim::holds(&plan, &claim, &letters);
-            assert_eq!(holds, literal_claim(&plan, &claim, &letters).is_some(), "case {number}: {claim:?} {letters:?} {plan:?}");
+            assert_eq!(holds, literal_claim(&plan, &sets, &claim, &letters).is_some(), "case {number}: {claim:?} {letters:?} {plan:?}");
             *(if holds { &mut yes } else { &mut no }) += 1;
+            // the set does not count under the name that is claimed
+            by_name += (!holds && literal_claim(&plan, &every, &claim, &letters).is_some()) as u32;
         }
     }
-    println!("claims: {yes} yes, {no} no");
-    assert!(yes > 500 && no > 500);
+    println!("claims: {yes} yes, {no} no, of which {by_name} by the name alone");
+    assert!(yes > 500 && no > 500 && by_name > 50);
 }
 
-/// The sentences of The count one by one, with paths.
-fn literal_claim(plan: &Plan, claim: &[u32], letters: &[u8]) -> Option<()> {
+/// The sentences of The count one by one, with paths, for these sets.
+fn literal_claim(plan: &Plan, sets: &[Named], claim: &[u32], letters: &[u8]) -> Option<()> {
     let &[stake, code, s, t, lead, turn, ..] = claim else { return None };
     let length = lead.checked_add(turn)?;
-    let named: Vec<usize> =
-        plan.critical_sets().into_iter().filter(|(name, _)| *name == (stake, code)).flat_map(|(_, set)| members(&set)).collect();
+    let (_, named) = sets.iter().find(|(name, _)| *name == (stake, code))?;
     let (s, t) = (s as usize, t as usize);
     let fits = s < t && named.contains(&s) && named.contains(&t) && turn >= 1 && length as usize <= plan.n * plan.n;
     if !fits || length as usize > letters.len() || letters[..length as usize].iter().any(|&code| code as usize >= plan.m) {

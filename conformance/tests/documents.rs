@@ -71,7 +71,12 @@ fn plan_c() -> Draft {
     draft(4, 2, &[0, 1], &[(0, 0, 2), (1, 0, 2), (2, 1, 3)])
 }
 
-/// Plans A to H as document 01 lists them, with their k or the refusal.
+fn plan_d() -> Draft {
+    draft(3, 1, &[0], &[(0, 0, 0), (1, 0, 1), (1, 0, 2), (2, 0, 2)])
+}
+
+/// Plans A to H as document 01 lists them, with their k or the refusal. W-202: "Plan D is then accepted with k 0, and B and H stay
+/// refused."
 fn listed() -> [(&'static str, Draft, Result<u32, u32>); 8] {
     let mut with_loop = plan_c();
     with_loop.lines.push((3, 1, 3));
@@ -79,7 +84,7 @@ fn listed() -> [(&'static str, Draft, Result<u32, u32>); 8] {
         ("A", plan_a(), Ok(1)),
         ("B", draft(2, 1, &[0], &[(0, 0, 0), (0, 0, 1), (1, 0, 1)]), Err(15)),
         ("C", plan_c(), Ok(3)),
-        ("D", draft(3, 1, &[0], &[(0, 0, 0), (1, 0, 1), (1, 0, 2), (2, 0, 2)]), Err(15)),
+        ("D", plan_d(), Ok(0)),
         ("E", draft(1, 1, &[], &[]), Ok(0)),
         ("F", draft(2, 1, &[0, 1], &[]), Ok(1)),
         ("G", draft(3, 2, &[0, 1], &[(0, 0, 1), (1, 0, 2), (1, 1, 0), (2, 1, 2)]), Ok(3)),
@@ -444,14 +449,187 @@ fn sizes_that_are_only_run() {
         let (_, table) = prepared(calls, &none).expect("k 0");
         assert_eq!(calls.open(&table, &mut [0; 8], &mut [0]), REFUSED + 13);
         assert_eq!(calls.walk(&table, &[], &mut [0], &mut [0]), REFUSED + 13);
-        let none = draft(3, 2, &[], &[(0, 0, 1), (0, 0, 2)]);
-        let (k, table) = prepared(calls, &none).expect("k 1");
-        assert_eq!((k, calls.open(&table, &mut [0; 9], &mut [0])), (1, REFUSED + 13));
         // the greatest count that 64 stakes reach here, and an empty part inside the lines
         counted(calls, &odometer(32, 32), Ok(1024), "k 1,024");
         let mut inside = header([1, 2, 1, 0, 1, 17, 16, 19]);
         inside.extend([0, 0, 1]);
         assert_eq!(calls.count(&inside), 0);
+    }
+}
+
+/// What the check says of a claim.
+fn said_yes(calls: &dyn Calls, plan: &Draft, claim: [u32; evidence::NUMBERS], letters: &[u8]) -> bool {
+    let reply = calls.check(&plan.bytes(), &claim, letters);
+    assert!(reply <= 1, "{reply} by {}", calls.name());
+    reply == 1
+}
+
+/// W-202: "a critical set counts only as the starts, or as what one code leads to from a stake that some walk from a start reaches; the
+/// same set named by an unreachable stake doesn't count". Here {1, 2} is what code 0 leads to from 0 and code 1 from 3, and both stakes go
+/// on with code 0 for ever.
+#[test]
+fn one_set_under_several_names() {
+    let lines = [(0, 0, 1), (0, 0, 2), (1, 0, 1), (2, 0, 2), (3, 1, 1), (3, 1, 2)];
+    let claims = [[STARTS, 0, 1, 2, 0, 1], [0, 0, 1, 2, 0, 1], [3, 1, 1, 2, 0, 1]];
+    // by the starts which of the names counts
+    let rows: [(&[u8], [bool; 3]); 9] = [
+        (&[0], [false, true, false]),
+        (&[3], [false, false, true]),
+        (&[0, 3], [false, true, true]),
+        (&[1, 2], [true, false, false]),
+        (&[1, 2, 0], [true, true, false]),
+        (&[1, 2, 3], [true, false, true]),
+        (&[1], [false; 3]),
+        (&[2], [false; 3]),
+        (&[], [false; 3]),
+    ];
+    for calls in common::everyone() {
+        for (starts, counting) in rows {
+            let plan = draft(4, 2, starts, &lines);
+            counted(calls, &plan, if counting.contains(&true) { Err(15) } else { Ok(0) }, &format!("from {starts:?}"));
+            let said = claims.map(|claim| said_yes(calls, &plan, claim, &[0]));
+            assert_eq!(said, counting, "from {starts:?} by {}", calls.name());
+        }
+        // the reachable name taken away with one of its lines
+        let plan = draft(4, 2, &[0], &[&lines[..1], &lines[2..]].concat());
+        counted(calls, &plan, Ok(0), "{1, 2} has the name of an unreachable stake alone");
+        assert_eq!(claims.map(|claim| said_yes(calls, &plan, claim, &[0])), [false; 3], "{}", calls.name());
+    }
+}
+
+/// W-202, without starts: no walk reaches a stake, and the starts alone, an empty set, count. Opening is refused with 13.
+#[test]
+fn no_starts_but_lines() {
+    for calls in common::everyone() {
+        for (name, with_starts, _) in listed() {
+            let plan = Draft { starts: vec![], ..with_starts };
+            counted(calls, &plan, Ok(0), &format!("{name} without starts"));
+            let (_, table) = prepared(calls, &plan).expect("k 0");
+            assert_eq!(calls.open(&table, &mut [0; 8], &mut [0]), REFUSED + 13, "{name} without starts");
+            assert_eq!(calls.walk(&table, &[], &mut [0], &mut [0]), REFUSED + 13, "{name} without starts");
+        }
+        let b = draft(2, 1, &[], &[(0, 0, 0), (0, 0, 1), (1, 0, 1)]);
+        assert!(!said_yes(calls, &b, [0, 0, 0, 1, 0, 1], &[0]) && !said_yes(calls, &b, [STARTS, 0, 0, 1, 0, 1], &[0]));
+        assert!(said_yes(calls, &Draft { starts: vec![0], ..b }, [0, 0, 0, 1, 0, 1], &[0]));
+    }
+}
+
+/// W-202: "Refusal 14 may now also meet a record whose base no walk reaches." Such a record passes 10 if its held codes can be walked.
+#[test]
+fn records_whose_base_no_walk_reaches() {
+    // k 0: stake 0, which no walk reaches, forks to itself and to 1
+    let plain = draft(2, 2, &[1], &[(0, 0, 0), (0, 0, 1)]);
+    // the same with a way on by code 1
+    let way_on = draft(2, 2, &[1], &[(0, 0, 0), (0, 0, 1), (0, 1, 1)]);
+    // k 1 by the starts 1 and 2: the fork of 0 leads to 0 and 3, which both go on
+    let held = draft(4, 2, &[1, 2], &[(0, 0, 0), (0, 0, 3), (3, 0, 3)]);
+    for calls in common::everyone() {
+        counted(calls, &plain, Ok(0), "the base's fork does not count");
+        let (_, table) = prepared(calls, &plain).expect("k 0");
+        assert_eq!(table, [2, 2, 0, 0b10, 0b11, 0, 0, 0]);
+        for legs in [0, 1, 2, 255] {
+            let rec = [legs, 0, 0, 0, 0, 0, 0, 0];
+            for (code, refusal) in [(0, 14), (1, 13), (2, 12)] {
+                let (mut fed, mut position) = (rec, [77]);
+                assert_eq!(calls.feed(&table, &mut fed, code, &mut position), REFUSED + refusal, "code {code} by {}", calls.name());
+                assert_eq!((fed, position), (rec, [77]));
+            }
+            assert_eq!(calls.finish(&table, &rec, &mut []), 0, "{}", calls.name());
+            // as opening leaves it, from the start: nothing is on the plan there
+            let mut opened = [legs, 0, 0, 0, 1, 0, 0, 0];
+            assert_eq!(calls.feed(&table, &mut opened, 0, &mut [0]), REFUSED + 13);
+        }
+        // a leg from such a base is taken where it leads to one stake
+        counted(calls, &way_on, Ok(0), "the base's fork does not count");
+        let (_, table) = prepared(calls, &way_on).expect("k 0");
+        let (mut rec, mut position) = ([4, 0, 0, 0, 0, 0, 0, 0], [77]);
+        assert_eq!(calls.feed(&table, &mut rec, 0, &mut position), REFUSED + 14);
+        assert_eq!(calls.feed(&table, &mut rec, 1, &mut position), 1);
+        assert_eq!((rec, position), ([5, 0, 0, 0, 1, 0, 0, 0], [5]));
+        // with a held code: 0 and 3 are possible at the position that is due
+        counted(calls, &held, Ok(1), "two starts, and a base whose fork does not count");
+        let (_, table) = prepared(calls, &held).expect("k 1");
+        let (rec, mut sets) = ([1, 0, 0, 0, 0, 0, 1, 0, 0], [0]);
+        assert_eq!((calls.finish(&table, &rec, &mut sets), sets), (1, [set(&[0, 3])]));
+        let mut fed = rec;
+        assert_eq!((calls.feed(&table, &mut fed, 0, &mut [0]), fed), (REFUSED + 14, rec));
+        // 10 is for held codes that can't be walked, here code 1
+        assert_eq!(calls.finish(&table, &[1, 0, 0, 0, 0, 0, 1, 0, 1], &mut sets), REFUSED + 10);
+    }
+}
+
+/// A chain of n stakes and behind it, n - 1 legs from the start, a fork. It counts if no leg of the chain is missing, in whatever order the
+/// stakes are numbered and the lines listed.
+#[test]
+fn a_fork_behind_a_chain() {
+    for n in [2, 3, 4, 9, 33, 64u8] {
+        let ascending: Vec<u8> = (0..n).collect();
+        let descending: Vec<u8> = (0..n).rev().collect();
+        let from_both_ends: Vec<u8> = (0..n).map(|i| if i % 2 == 0 { i / 2 } else { n - 1 - i / 2 }).collect();
+        for order in [ascending, descending, from_both_ends] {
+            let (last, other) = (order[n as usize - 1], order[n as usize - 2]);
+            let claim = [last as u32, 1, last.min(other) as u32, last.max(other) as u32, 0, 1];
+            let mut chain: Vec<Line> = order.windows(2).map(|pair| (pair[0], 0, pair[1])).collect();
+            chain.reverse();
+            // what code 1 leads to from the last: itself and the one before, of which the first goes on with 1 and the other with 0
+            let fork = [(last, 1, last), (last, 1, other)];
+            // with a loop there the other goes on with 1 too
+            let clash = [fork.as_slice(), &[(other, 1, other)]].concat();
+            for calls in common::everyone() {
+                let made = |chain: &[Line], fork: &[Line]| draft(n as usize, 2, &order[..1], &[chain, fork].concat());
+                counted(calls, &made(&chain, &fork), Ok(1), "a whole chain");
+                counted(calls, &made(&chain, &clash), Err(15), "a whole chain");
+                assert!(said_yes(calls, &made(&chain, &clash), claim, &[1]), "{order:?} by {}", calls.name());
+                for missing in 0..chain.len() {
+                    let (before, after) = (&chain[..missing], &chain[missing + 1..]);
+                    let cut = [before, after].concat();
+                    assert_eq!(calls.count(&made(&cut, &fork).bytes()), 0, "{order:?} by {}", calls.name());
+                    assert_eq!(calls.count(&made(&cut, &clash).bytes()), 0, "{order:?} by {}", calls.name());
+                    assert!(!said_yes(calls, &made(&cut, &clash), claim, &[1]), "{order:?} by {}", calls.name());
+                }
+            }
+        }
+    }
+}
+
+/// W-202: "Verdicts may still name any set." Document 01's of plan A's set {1,2} hold from whatever start, also where no walk reaches 1.
+#[test]
+fn verdicts_on_any_set() {
+    for calls in common::everyone() {
+        for (starts, k) in [(vec![0], 1), (vec![1], 1), (vec![2], 0), (vec![], 0)] {
+            let (found, table) = prepared(calls, &Draft { starts, ..plan_a() }).expect("predictable");
+            assert_eq!(found, k);
+            assert_eq!(judged(calls, &table, 1, 0, &[]), (false, set(&[1, 2]), set(&[2])));
+            assert_eq!(judged(calls, &table, 1, 0, &[0]), (true, set(&[1]), 0));
+        }
+        // D: in {1,2}, for which it was turned down, every word is a nonselector of both and none is maximal
+        let (_, table) = prepared(calls, &plan_d()).expect("k 0");
+        for length in 0..5 {
+            assert_eq!(judged(calls, &table, 1, 0, &vec![0; length]), (false, set(&[1, 2]), 0));
+        }
+    }
+}
+
+/// W-202: "where we compare with source document 003, we compare after its unreachable stakes are taken out". Its figures from other
+/// starts.
+#[test]
+fn figures_from_other_starts() {
+    for calls in common::everyone() {
+        // Fig. 1 (a): from q the fork <q, a> counts, and from r nothing remains but r
+        counted(calls, &Draft { starts: vec![1], ..plan_a() }, Ok(1), "Fig. 1 (a) from q");
+        counted(calls, &Draft { starts: vec![2], ..plan_a() }, Ok(0), "Fig. 1 (a) from r");
+        // Fig. 7: from q3 all is reached; from q6 there remains q6 b q5, and from q5 nothing but q5
+        counted(calls, &figure_7(&[2]), Ok(2), "Fig. 7 from q3");
+        counted(calls, &figure_7(&[5]), Ok(0), "Fig. 7 from q6");
+        counted(calls, &figure_7(&[4]), Ok(0), "Fig. 7 from q5");
+        // from both there remains the same, and they share the empty word alone
+        counted(calls, &figure_7(&[4, 5]), Ok(1), "Fig. 7 from q5 and q6");
+        // Fig. 10 from any state but the first: there remains a chain
+        for n in [2, 3, 9, 64] {
+            for start in 1..n as u8 {
+                counted(calls, &Draft { starts: vec![start], ..unary_chain(n) }, Ok(0), "Fig. 10 from a state of its chain");
+            }
+        }
     }
 }
 

@@ -4,7 +4,7 @@
 mod common;
 
 use common::program::{plan_a, ring, started, with_legs, SAMPLE};
-use conformance::families::{draft, odometer};
+use conformance::families::{draft, odometer, Draft};
 use conformance::forms::plan::{number, HEADER, TOTAL};
 use conformance::lent::hex;
 use conformance::random::{bytes, plans, walks, Random};
@@ -103,6 +103,14 @@ fn what_document_01_says_of_refusals() {
     let text = "stakes 4 codes 2 starts 2 lines 3\nlook-ahead 3\nrefused 13 logger\nopen 0 stakes 0 1\nopen 1 stakes 2\nopen 2 stakes 3\n";
     assert_eq!(written(&with_legs(&c, &[0, 1, 1, 0, 9])), text);
     assert_eq!(report(&with_legs(&c, &[0, 1, 1, 0, 9])), text);
+    // D, since W-202, and B without its start: what no walk reaches does not count
+    let d = draft(3, 1, &[0], &[(0, 0, 0), (1, 0, 1), (1, 0, 2), (2, 0, 2)]);
+    let text = "stakes 3 codes 1 starts 1 lines 4\nlook-ahead 0\nat 0 stake 0\nat 1 stake 0\nat 2 stake 0\n";
+    assert_eq!(written(&with_legs(&d, &[0, 0])), text);
+    assert_eq!(report(&with_legs(&d, &[0, 0])), text);
+    let text = "stakes 2 codes 1 starts 0 lines 3\nlook-ahead 0\nrefused 13 logger\n";
+    assert_eq!(written(&with_legs(&Draft { starts: vec![], ..b.clone() }, &[0, 0])), text);
+    assert_eq!(report(&with_legs(&Draft { starts: vec![], ..b }, &[0, 0])), text);
     // with k 0 there is nothing open
     let line = draft(2, 1, &[0], &[(0, 0, 1)]);
     let text = "stakes 2 codes 1 starts 1 lines 1\nlook-ahead 0\nat 0 stake 0\nat 1 stake 1\nrefused 13 logger\n";

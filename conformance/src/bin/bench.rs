@@ -122,6 +122,15 @@ fn any_lines(r: &mut Random, m: usize, e: usize) -> Draft {
     drawn(r, m, e, |r| Some((r.below(MAX_STAKES) as u8, r.below(m) as u8, r.below(MAX_STAKES) as u8)))
 }
 
+/// Lines that lead downhill among the lower half of the stakes, and any lines out of the upper half, which no walk reaches.
+fn half_abandoned(r: &mut Random, m: usize, e: usize) -> Draft {
+    let half = MAX_STAKES / 2;
+    drawn(r, m, e, |r| {
+        let (from, code, to) = (r.below(MAX_STAKES), r.below(m), r.below(MAX_STAKES));
+        (from >= half || (from < to && to < half)).then_some((from as u8, code as u8, to as u8))
+    })
+}
+
 /// One line out of each stake by each code: k 0.
 fn deterministic(r: &mut Random, m: usize) -> Draft {
     let lines: Vec<Line> = (0..MAX_STAKES as u8).flat_map(|s| (0..m as u8).map(move |c| (s, c, 0))).collect();
@@ -217,9 +226,11 @@ fn main() {
         ("unpredictable, 4,096 random lines over 64 × 32", any_lines(&mut r, MAX_CODES, MAX_LINES).bytes()),
         ("unpredictable, 150 random lines over 64 × 2", any_lines(&mut r, 2, 150).bytes()),
         ("unpredictable, loop after 1,023 codes, 64 × 4", late_loop.bytes()),
+        ("half of the stakes abandoned, 4,096 lines over 64 × 32", half_abandoned(&mut own, MAX_CODES, MAX_LINES).bytes()),
     ];
     for (name, plan) in &plans {
         let reply = agreed(&|calls| calls.look_ahead(plan, &mut [0; LETTERS], &mut [0; EVIDENCE]));
+        assert_eq!(name.starts_with("unpredictable"), reply == REFUSED + 15, "{name}: {}", says(reply));
         row(&format!("count, {name}: {}", says(reply)), 1, &|calls| {
             black_box(calls.look_ahead(black_box(plan), &mut [0; LETTERS], &mut [0; EVIDENCE]));
         });

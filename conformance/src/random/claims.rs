@@ -58,9 +58,18 @@ pub fn near(r: &mut Random, claim: &[u32; evidence::NUMBERS], codes: &[u8], n: u
     near
 }
 
+/// The claim under a few of the names that its set has, whether it counts under them or not.
+pub fn renamed(r: &mut Random, plan: &Plan, claim: &[u32; evidence::NUMBERS], codes: &[u8]) -> Vec<Claim> {
+    let set = plan.named(claim[0], claim[1]);
+    let mut names: Vec<_> = plan.every_set().into_iter().filter(|(_, other)| Some(other) == set.as_ref()).map(|(name, _)| name).collect();
+    r.shuffle(&mut names);
+    names.truncate(4);
+    names.into_iter().map(|(stake, code)| ([[stake, code].as_slice(), &claim[2..]].concat(), codes.to_vec())).collect()
+}
+
 /// Any claim at all, in range more often than not.
 pub fn any(r: &mut Random, plan: &Plan) -> Claim {
-    let sets = plan.critical_sets();
+    let sets = plan.every_set();
     let (name, set) = r.pick(&sets);
     let stakes = members(&set);
     let (mut s, mut t) = (r.below(plan.n), r.below(plan.n));

@@ -189,6 +189,58 @@ pub fn full(r: &mut Random) -> Draft {
     Draft { n: MAX_STAKES, m, starts: some_starts(r, MAX_STAKES, MAX_STAKES), lines }
 }
 
+/// Adds a line if it is a new one and there is room.
+fn add(plan: &mut Draft, line: Line) {
+    if plan.lines.len() < MAX_LINES && !plan.lines.contains(&line) {
+        plan.lines.push(line);
+    }
+}
+
+/// Abandoned stakes beside the plan: lines among themselves and into it, none back. Some of their forks go on for ever, and some lead to
+/// the very stakes of a fork of the plan, or to its starts.
+fn abandon(r: &mut Random, plan: &mut Draft) {
+    let (old, lines) = (plan.n, plan.lines.clone());
+    let most = r.pick(&[1, 2, 3, 6, MAX_STAKES]).min(MAX_STAKES - old);
+    plan.n += r.among(most.min(1), most);
+    for from in old..plan.n {
+        for _ in 0..r.among(1, 3) {
+            let code = r.below(plan.m) as u8;
+            let (from, to) = (from as u8, r.below(plan.n) as u8);
+            match r.below(5) {
+                0 if !lines.is_empty() => {
+                    let of = r.pick(&lines);
+                    let fork = lines.iter().filter(|line| (line.0, line.1) == (of.0, of.1));
+                    fork.for_each(|line| add(plan, (from, code, line.2)));
+                }
+                1 => plan.starts.clone().into_iter().for_each(|start| add(plan, (from, code, start))),
+                2 => {
+                    let other = r.among(old, plan.n - 1) as u8;
+                    [(from, code, from), (from, code, other), (other, code, other)].into_iter().for_each(|line| add(plan, line));
+                }
+                _ => add(plan, (from, code, to)),
+            }
+        }
+    }
+}
+
+/// A chain of stakes before the plan: it begins at the only start, and its last one forks to what were the plan's starts. Mostly whole,
+/// else without one of its lines, so that all behind the gap is abandoned.
+fn behind_a_chain(r: &mut Random, plan: &mut Draft) {
+    let room = MAX_STAKES - plan.n;
+    if room == 0 {
+        return;
+    }
+    let length = r.pick(&[1, 2, 4, room / 2, room]).clamp(1, room);
+    let gap = r.percent(40).then(|| r.below(length));
+    for step in (0..length).filter(|&step| Some(step) != gap) {
+        let (from, code) = ((plan.n + step) as u8, r.below(plan.m) as u8);
+        let led_to = if step + 1 < length { vec![from + 1] } else { plan.starts.clone() };
+        led_to.into_iter().for_each(|to| add(plan, (from, code, to)));
+    }
+    plan.starts = vec![plan.n as u8];
+    plan.n += length;
+}
+
 /// The stakes under other numbers, and the lines in another order.
 fn renumber(r: &mut Random, plan: &mut Draft) {
     let mut name: Vec<u8> = (0..plan.n as u8).collect();
@@ -214,6 +266,20 @@ pub fn plan(r: &mut Random) -> Draft {
         98 => large(r),
         _ => draft(r.among(1, MAX_STAKES), r.among(1, MAX_CODES), &[], &[]),
     };
+    // stakes that no walk from a start reaches, or only a long one; sometimes by other starts, or none
+    match r.below(100) {
+        0..=19 => abandon(r, &mut plan),
+        20..=27 => behind_a_chain(r, &mut plan),
+        28..=29 => {
+            abandon(r, &mut plan);
+            behind_a_chain(r, &mut plan);
+        }
+        30..=36 => {
+            let starts = r.pick(&[0, 1, 1, 1, 2]);
+            plan.starts = some_starts(r, plan.n, starts);
+        }
+        _ => {}
+    }
     // near the border: a line more or less, another start, room for more stakes and codes
     if r.percent(25) && plan.lines.len() < MAX_LINES {
         let line = (r.below(plan.n) as u8, r.below(plan.m) as u8, r.below(plan.n) as u8);

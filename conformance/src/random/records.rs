@@ -8,7 +8,7 @@ use crate::reference::only;
 use crate::reference::plan::Plan;
 use crate::reference::walk::step;
 
-/// A record for a table: legs near k or near the last one, held codes that mostly can be walked.
+/// A record for a table: legs near k or near the last one, held codes that mostly can be walked, often from a base that no walk reaches.
 pub fn record(r: &mut Random, plan: &Plan, k: usize) -> Vec<u8> {
     let most = MAX_LEGS as usize;
     let legs = match r.below(8) {
@@ -22,7 +22,15 @@ pub fn record(r: &mut Random, plan: &Plan, k: usize) -> Vec<u8> {
         _ => r.below(most + 1),
     };
     let held = legs.min(k);
-    let booked = if legs < k { NONE } else { r.below(plan.n) as u8 };
+    let reached = plan.reached();
+    let abandoned: Vec<u8> = (0..plan.n as u8).filter(|&stake| !reached[stake as usize]).collect();
+    let booked = if legs < k {
+        NONE
+    } else if !abandoned.is_empty() && r.percent(30) {
+        r.pick(&abandoned)
+    } else {
+        r.below(plan.n) as u8
+    };
     let mut set = if legs < k { plan.starts.clone() } else { only(plan.n, booked as usize) };
     let mut codes = Vec::new();
     for _ in 0..held {

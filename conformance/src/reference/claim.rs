@@ -2,12 +2,19 @@
 
 use super::forms::{evidence_length, EVIDENCE};
 use super::lookahead::{Pairs, Shared};
-use super::plan::Plan;
+use super::plan::{Name, Plan};
 use super::walk::reach;
-use super::{members, only};
+use super::{members, only, Stakes};
 
 /// The check of a claim: six numbers (the critical set's stake and code, stakes s and t, the lengths of lead-in and loop) and codes.
 pub fn holds(plan: &Plan, claim: &[u32], letters: &[u8]) -> bool {
+    // W-202: the set must count under the name that is claimed; "the same set named by an unreachable stake doesn't count"
+    let is_claimed = |&(stake, code): &Name| claim.starts_with(&[stake, code]);
+    holds_of_any_set(plan, claim, letters) && plan.critical_sets().iter().any(|(name, _)| is_claimed(name))
+}
+
+/// All that is asked of a claim but that its set counts.
+pub fn holds_of_any_set(plan: &Plan, claim: &[u32], letters: &[u8]) -> bool {
     // numbers past the sixth are not read
     let &[stake, code, s, t, lead, turn, ..] = claim else {
         return false;
@@ -43,16 +50,23 @@ pub fn holds(plan: &Plan, claim: &[u32], letters: &[u8]) -> bool {
     goes_round(s) && goes_round(t)
 }
 
-/// A true claim for a plan without k, by a walk over pairs that share endless words until one pair comes again; `choose` picks one of
-/// so many ways to go on.
-pub fn example(plan: &Plan, choose: &mut dyn FnMut(usize) -> usize) -> Option<([u32; EVIDENCE], Vec<u8>)> {
+/// The six numbers and the codes of lead-in and loop.
+pub type Example = ([u32; EVIDENCE], Vec<u8>);
+
+/// A true claim for a plan without k; `choose` picks one of so many ways to go on.
+pub fn example(plan: &Plan, choose: &mut dyn FnMut(usize) -> usize) -> Option<Example> {
+    example_of(plan, &plan.critical_sets(), choose)
+}
+
+/// A claim about one of these sets that is true if it counts, by a walk over pairs that share endless words until one pair comes again.
+pub fn example_of(plan: &Plan, sets: &[(Name, Stakes)], choose: &mut dyn FnMut(usize) -> usize) -> Option<Example> {
     let mut pairs = Pairs::new(plan);
     let mut rivals = Vec::new();
-    for (name, set) in plan.critical_sets() {
-        for &s in &members(&set) {
-            for &t in &members(&set) {
+    for (name, set) in sets {
+        for &s in &members(set) {
+            for &t in &members(set) {
                 if s < t && pairs.longest(s, t) == Shared::Endless {
-                    rivals.push((name, s, t));
+                    rivals.push((*name, s, t));
                 }
             }
         }

@@ -1,7 +1,7 @@
 //! The count: the longest word that two stakes share is a longest path over the graph of pairs, and endless if a loop can be reached.
 
-use super::members;
-use super::plan::Plan;
+use super::plan::{Name, Plan};
+use super::{members, Stakes};
 
 /// How long the longest word is that two stakes share.
 #[derive(Clone, Copy, Debug, PartialEq, Eq)]
@@ -79,11 +79,17 @@ impl Pairs {
 }
 
 /// k: the least number for which no two different stakes of one critical set share a word of k codes; none if there is no such number.
+/// W-202: "The count and refusal 15, with its evidence, use the critical sets so narrowed".
 pub fn look_ahead(plan: &Plan) -> Option<usize> {
+    least(plan, &plan.critical_sets())
+}
+
+/// The same with any sets in the place of the critical sets that count.
+pub fn least(plan: &Plan, sets: &[(Name, Stakes)]) -> Option<usize> {
     let mut pairs = Pairs::new(plan);
     let mut k = 0;
-    for (_, set) in plan.critical_sets() {
-        let stakes = members(&set);
+    for (_, set) in sets {
+        let stakes = members(set);
         for &s in &stakes {
             for &t in &stakes {
                 if s < t {

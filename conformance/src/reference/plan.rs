@@ -13,6 +13,9 @@ pub struct Plan {
     pub lines: Vec<Vec<(usize, usize)>>,
 }
 
+/// A critical set's name: stake and code.
+pub type Name = (u32, u32);
+
 /// What reading answers, and the plan that was read.
 #[derive(Debug)]
 pub struct Read {
@@ -33,10 +36,38 @@ impl Plan {
         set
     }
 
-    /// Every critical set with its name: the starts as stake 255 and code 0, then the forks that are not empty.
-    pub fn critical_sets(&self) -> Vec<((u32, u32), Stakes)> {
+    /// W-202: the stakes "that some walk from a start reaches", a walk of no legs too. The lines are gone through again and again, and
+    /// where one begins at a marked stake its end is marked, until a whole pass marks nothing new.
+    pub fn reached(&self) -> Stakes {
+        let mut marked = self.starts.clone();
+        loop {
+            let before = marked.clone();
+            for &(from, to) in self.lines.iter().flatten() {
+                if marked[from] {
+                    marked[to] = true;
+                }
+            }
+            if marked == before {
+                return marked;
+            }
+        }
+    }
+
+    /// The critical sets that count, each with its name. W-202: "a critical set counts only as the starts, or as what one code leads to
+    /// from a stake that some walk from a start reaches; the same set named by an unreachable stake doesn't count".
+    pub fn critical_sets(&self) -> Vec<(Name, Stakes)> {
+        self.sets_of(&members(&self.reached()))
+    }
+
+    /// Every critical set, whether it counts or not: "Verdicts may still name any set."
+    pub fn every_set(&self) -> Vec<(Name, Stakes)> {
+        self.sets_of(&(0..self.n).collect::<Vec<_>>())
+    }
+
+    /// The starts as stake 255 and code 0, then the forks of these stakes that are not empty.
+    fn sets_of(&self, stakes: &[usize]) -> Vec<(Name, Stakes)> {
         let mut sets = vec![(STARTS, self.starts.clone())];
-        for stake in 0..self.n {
+        for &stake in stakes {
             for code in 0..self.m {
                 if self.lines[code].iter().any(|&(from, _)| from == stake) {
                     sets.push(((stake as u32, code as u32), self.fork(stake, code)));

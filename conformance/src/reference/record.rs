@@ -113,6 +113,7 @@ pub fn feed(plan: &Plan, k: usize, record: &Record, code: u32) -> Result<(Bookin
     let position = legs - k;
     let at_base = record.legs as usize - record.held as usize;
     let set = &sets[position - at_base];
+    // W-202: "Refusal 14 may now also meet a record whose base no walk reaches"; 10 does not ask whether one does
     if size(set) > 1 {
         return refuse(14, "two or more stakes are possible");
     }

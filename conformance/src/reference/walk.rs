@@ -80,6 +80,7 @@ pub struct Verdict {
 }
 
 pub fn verdict(plan: &Plan, stake: u32, code: u32, word: &[u8]) -> Result<Verdict, Refusal> {
+    // W-202: "Verdicts may still name any set."
     let Some(set) = plan.named(stake, code) else {
         return refuse(12, if stake == STARTS.0 { "255 with a code other than 0" } else { "the set's name off the plan" });
     };
