@@ -60,6 +60,9 @@ fault "write: 9 before 1 to 7" calls.rs 'fn write(plan: &[u8], out: &mut [u8]) -
 fault "write: the rest of the buffer cleared" calls.rs 'put(out, &form);' 'put(out, &form); if FAULT { out[form.len()..].fill(0); }'
 fault "group: a number cut to 8 bits" mod.rs 'list.contains(&number)' 'list.contains(&if FAULT { number % 256 } else { number })'
 fault "group: caller and logger exchanged" mod.rs 'place as u32 + 1)' 'if FAULT && place > 0 { 4 - place as u32 } else { place as u32 + 1 })'
+# which evidence is given is free, so the library's is not compared with the reference's: each is checked by itself
+kind=evidence
+fault "evidence named by an unreachable stake" claim.rs 'example_of(plan, &plan.critical_sets(), choose)' 'if FAULT { let sets: Vec<_> = plan.every_set().into_iter().rev().collect(); return example_of(plan, &sets, choose); } example_of(plan, &plan.critical_sets(), choose)'
 # the report: the sound reference's own stands in for the program, since here it is the faults that are tried
 kind=report
 fault "report: one open stake under the word stake" report.rs 'text += &format!("open {position} stakes {}\n", stakes.join(" "));' 'text += &format!("open {position} stake{} {}\n", if FAULT && stakes.len() == 1 { "" } else { "s" }, stakes.join(" "));'
@@ -94,13 +97,19 @@ run() {
         "$documents" --skip million
         "$comparison" library
     fi
-    if [ "$2" != calls ]; then
+    if [ "$2" = report ] || [ "$2" = all ]; then
         "$report"
     fi
 }
 
-# the tests that compare with the library, or with the report program
-comparing() { [ "$1" = calls ] && echo library || echo '\(random_plans_and_legs\|a_refused_leg_at_every_border\|a_million_legs_and_the_next\)'; }
+# the tests that compare with the library, that check evidence, or that compare with the report program
+comparing() {
+    case $1 in
+    calls) echo library ;;
+    evidence) echo one_set_under_several_names ;;
+    report) echo '\(random_plans_and_legs\|a_refused_leg_at_every_border\|a_million_legs_and_the_next\)' ;;
+    esac
+}
 
 at_once=$(nproc 2>/dev/null || echo 1) going=1 tried=0 missed=0
 run 0 all >"$room/said.0" 2>&1 &

@@ -154,7 +154,7 @@ static inline uint32_t gawherino_refusal(uint32_t answer)
  * form.
  *
  * A table is 64-bit numbers: n, m, k, the starts, then at 4 + stake * m + code the set of stakes that the code leads to. They stand in the
- * machine's own byte order: keep the plan, and prepare it again on each machine.
+ * machine's own byte order: keep the plan, and prepare it again on each machine, by the same version of this library.
  *
  * A record is bytes, the same on every machine. It may be stored, copied and sent. It is a walk on one table and does not say on which; it
  * has no checksum, and a torn one may pass for another record (examples/c/restart.c shows how to keep it).
@@ -214,8 +214,9 @@ uint32_t gawherino_judge(const uint64_t *table, size_t table_len, uint32_t state
  * booked. Refused with 8, 9, 13, 14. */
 uint32_t gawherino_open(const uint64_t *table, size_t table_len, uint8_t *rec, size_t rec_len, uint32_t *position, size_t position_len);
 
-/* A leg, its code any number: answers as opening does. Refused with 8 to 14; 12 if the code is not below m. A record that a walk left on a
- * table made by preparing never meets 14; a made-up one may, where no walk reaches its booked stake, for 10 does not look at that. */
+/* A leg, its code any number: answers as opening does. Refused with 8 to 14; 12 if the code is not below m. A record that a walk on
+ * this table left never meets 14, if preparing made the table; one that none left (made up, torn, another plan's) may, where no walk
+ * reaches its booked stake, for 10 does not look at that. */
 uint32_t gawherino_feed(const uint64_t *table, size_t table_len, uint8_t *rec, size_t rec_len, uint32_t letter, uint32_t *position,
                         size_t position_len);
 

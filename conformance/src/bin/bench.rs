@@ -208,6 +208,8 @@ fn main() {
         });
     }
 
+    // of the 32 stakes with forks the one start is reached, or all as starts
+    let half: Vec<u8> = (0..32).collect();
     let across: Vec<Line> = (0..32).flat_map(|from| (0..4).flat_map(move |code| (32..64).map(move |to| (from, code, to)))).collect();
     let mut late_loop = odometer(32, 32);
     // the last pair of the count goes on for ever: x 31 and y 31 share code 1
@@ -216,6 +218,7 @@ fn main() {
         ("dense, 4,096 lines downhill over 64 × 32", full.clone()),
         ("dense, 4,096 lines downhill over 64 × 4", downhill(&mut r, 4, MAX_LINES).bytes()),
         ("dense, 4,096 lines from half to half over 64 × 4", draft(64, 4, &[7], &across).bytes()),
+        ("dense, the same with 32 starts", draft(64, 4, &half, &across).bytes()),
         ("sparse, 200 lines downhill over 64 × 4", downhill(&mut r, 4, 200).bytes()),
         ("sparse, deterministic over 64 × 32", deterministic(&mut r, MAX_CODES).bytes()),
         ("ladder of 31 over 63 × 2", ladder(31, 2).bytes()),

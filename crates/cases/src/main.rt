@@ -1,6 +1,6 @@
 // Runs document 01's plans A to H through the calls and writes a line for each: the look-ahead, or the refusal and whether its evidence
 // passes the check; then what document 01 says of that plan beside.
-// `stdout` is written from document 01; crates/demand proves the same of the definitions.
+// `stdout` is written from document 01, D's line from document 02 (W-202); crates/demand proves the same of the definitions.
 use claim::Checked;
 use deciding::Answer;
 use lookahead::Evidence;

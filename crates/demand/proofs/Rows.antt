@@ -263,7 +263,7 @@ rows-said = (
     (
       ((refl, refl, refl, refl), tt),
       (
-        ((refl, refl), tt),
+        ((refl, refl), ((refl, refl, record { survivors = refl; minimal = refl; nonselected = refl }), tt)),
         (
           (refl, tt),
           (

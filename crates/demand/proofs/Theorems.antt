@@ -14,7 +14,7 @@ use Rattle.bitset.proofs.Below.{any-in, with-any}
 use Rattle.semiautomata.specs.Semiautomaton.{Semiautomaton, Within, Reached}
 use Rattle.semiautomata.specs.Predictability.{Predictable, Lookahead}
 use Rattle.streaming.specs.Calls.{Reply, refused, resolved, nothing, Result}
-use Rattle.streaming.specs.Demand3.{Only11to13, Demand3}
+use Rattle.streaming.specs.Demand3.{Demand3}
 use Rattle.streaming.specs.Streaming.{Rec, base, opened, feed, feedChecks, settledBy, streamed}
 use Rattle.streaming.proofs.Calls.{passed-done, behind}
 use Rattle.refusals.proofs.First.{first-passed}

@@ -1,5 +1,5 @@
--- What documents 01 and 02 say of plans A to H, and of our own, of the calls: the look-ahead, the possible states of a walk, verdicts,
--- opening; which claims are said yes, and a forged record that meets 14 (W-202).
+-- What the calls answer on plans A to H, as documents 01 and 02 say it, and on plans of our own: the look-ahead, the possible states of a
+-- walk, verdicts, opening; claims said yes and no, and a forged record that meets 14 (W-202).
 -- Assumes nothing.
 use Prim.Native.Nat.{ℕ, _+_, _-_, _*_, _/_, _≤_, _<_}
 use mathlib.Core.Bool.{Bool, true, false}
@@ -33,8 +33,8 @@ use Rattle.demand.specs.Demand.{Made}
 
 -- What is said beside the look-ahead: a walk wholly on the plan, with the possible states at each position; the verdict on a word for the
 -- fork set of a state and a letter; that opening is refused with 13; that the look-ahead is the bound itself; that a claim with these
--- letters is said yes; that none is which names the fork set of this state and letter; that this letter fed to these record bytes is
--- refused with 14.
+-- letters is said yes; that every claim about the fork set of this state and letter is said no; that this letter fed to these record
+-- bytes is refused with 14.
 pub data Saying : Type 0 where
   walked : List ℕ → List ℕ → Saying
   judged : ℕ → ℕ → List ℕ → Verdict → Saying
@@ -108,7 +108,7 @@ rows =
     row A (judged 1 0 [] (verdict 6 false 4) ∷ judged 1 0 (0 ∷ []) (verdict 2 true 0) ∷ [])
     ∷ row B []
     ∷ row C (walked (0 ∷ 1 ∷ []) (3 ∷ 4 ∷ 8 ∷ []) ∷ [])
-    ∷ row D (uncounted 1 0 ∷ [])
+    ∷ row D (uncounted 1 0 ∷ judged 1 0 [] (verdict 6 false 0) ∷ [])
     ∷ row E (unopened ∷ [])
     ∷ row F (walked [] (3 ∷ []) ∷ [])
     ∷ row G (at-bound ∷ [])

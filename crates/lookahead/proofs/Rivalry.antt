@@ -7,7 +7,7 @@ use mathlib.Core.List.{List}
 use Prim.Native.Nat.{ℕ, _+_, _-_, _*_, _/_, _%_, _^_, _≤_, _<_}
 use native.Mathlib.Numerals.{add-one}
 use native.Mathlib.Omega.{arith}
-use lib.Bits.{bitAnd, bitOr}
+use lib.Bits.{bitAnd}
 use lib.Count.{trailingZeros}
 use lib.Dec.{eqb}
 use lib.ListN.{length, getD, replicate}
@@ -27,7 +27,7 @@ use Rattle.semiautomata.proofs.Shares.{share-swap, rivals-lt, clash-ordered}
 use Rattle.semiautomata.proofs.Successors.{place-lt, edge-out, edge-is, state-lt, letter-lt, place-of, fit-within}
 use Rattle.rows.specs.Rows.{pair, Put, Common}
 use Rattle.semiautomata.proofs.Places.{place-state, zeros-at}
-use Rattle.walks.proofs.Reaching.{reached-in, reached-out}
+use Rattle.walks.proofs.Reaching.{andDone, reached-in, reached-out}
 use Rattle.pairs.specs.Sharing.{Parted, Lasting}
 use Rattle.pairs.proofs.Starts.{share-starts}
 use Rattle.lookahead.specs.inner.Rivals.{Together, Named, Matched, both, Forked, Rivalry, Endless}
@@ -78,7 +78,7 @@ module _ {n m : ℕ} {sets old : List ℕ} where
   gathered-first = record { long = refl; is = λ s t d. rw (any-none n (forks m 0 sets s t) (λ q _. rw (has-empty q)), or-false) }
 
   pub gathered-next : {mid new : List ℕ} {done q : ℕ} → q < n → n ≤ 64 → Forked m sets q m mid new → Gathered n m done sets old mid
-      → Gathered n m (bitOr done ((1 * 2 ^ q) % 2 ^ 64)) sets old new
+      → Gathered n m (andDone done q) sets old new
   gathered-next {done = done} {q = q} h w f g = record {
     long = f .long ∙ g .long;
     is = λ s t d. rw (f .is s t d, g .is s t d, any-insert n done q h w (λ q. any m (both m sets q s t)), or-assoc);
@@ -87,10 +87,6 @@ module _ {n m : ℕ} {sets old : List ℕ} where
 -- THE CRITICAL SETS THAT COUNT
 
 module _ (n m starts : ℕ) (sets : List ℕ) where
-  -- the fork set at a place
-  pub edge-at : (i : ℕ) → i < n * m → (t : ℕ) → successors n m starts sets .edge (i / m) (i % m) t ≡ has (getD sets i 0) t
-  edge-at i h t = edge-is n m starts sets (i / m) (i % m) t (state-lt n m i h) (letter-lt n m i h) ∙ rw (place-of n m i h)
-
   pub names-initial : (s t : ℕ) → (has starts s && has starts t) ≡ true → Named (successors n m starts sets) 255 0 s t
   names-initial s t e =
       let (p, q) = and-out (has starts s) _ e in
@@ -98,34 +94,43 @@ module _ (n m starts : ℕ) (sets : List ℕ) where
 
   module _ (F : Fit n m sets) (H : starts < 2 ^ n) {reached : ℕ} (R : reached ≡ setOf n (accessible (successors n m starts sets)))
       (s t : ℕ) where
-    pub names-fork : (i : ℕ) → i < n * m → (has (getD sets i 0) s && has (getD sets i 0) t) ≡ true → has reached (i / m) ≡ true
-        → Named (successors n m starts sets) (i / m) (i % m) s t
-    names-fork i h e r =
-        let (p, q) = and-out (has (getD sets i 0) s) _ e in
-        let x = state-lt n m i h in
+    -- the fork set of a reached state that has both
+    together-fork : (q a : ℕ) → q < n → a < m → has reached q ≡ true → both m sets q s t a ≡ true
+        → Together (successors n m starts sets) s t
+    together-fork q a h g r e =
+        let (x, y) = and-out (has (setAt m sets q a) s) _ e in
+        let p = edge-is n m starts sets q a s h g ∙ x in
         record {
-          together = record {
-            set = fork (i / m) (i % m);
-            counts = (reached-out (successors n m starts sets) R (i / m) r, (s, edge-at i h s ∙ p));
-            left = edge-at i h s ∙ p;
-            right = edge-at i h t ∙ q;
-          };
-          names =
-              rw (ne-eqb (i / m) 255 (λ e. omega (arith, F .states)), lt-ltb (i / m) n x, lt-ltb (i % m) m (letter-lt n m i h));
+          set = fork q a;
+          counts = (reached-out (successors n m starts sets) R q r, (s, p));
+          left = p;
+          right = edge-is n m starts sets q a t h g ∙ y;
         }
 
-    -- two states that are together are so in the initial states, or at a place of a reached state
-    by-places : Together (successors n m starts sets) s t
-        → ((has starts s && has starts t) ≡ true)
+    pub names-fork : (i : ℕ) → i < n * m → (has (getD sets i 0) s && has (getD sets i 0) t) ≡ true → has reached (i / m) ≡ true
+        → Named (successors n m starts sets) (i / m) (i % m) s t
+    unfolding together-fork
+    names-fork i h e r =
+        let x = state-lt n m i h in
+        let y = letter-lt n m i h in
+        record {
+          together = together-fork (i / m) (i % m) x y r (rw (place-of n m i h) e);
+          names = rw (ne-eqb (i / m) 255 (λ e. omega (arith, F .states)), lt-ltb (i / m) n x, lt-ltb (i % m) m y);
+        }
+
+    -- two states are together in the initial states, or in the fork set of a reached state
+    abbrev Where : Type 0
+    Where =
+        ((has starts s && has starts t) ≡ true)
         ⊎ ((q : ℕ) × (a : ℕ) × (q < n) × (a < m) × (has reached q ≡ true) × (both m sets q s t a ≡ true))
-    by-places k = go (k .set) (k .counts) (k .left) (k .right)
+
+    found : Together (successors n m starts sets) s t → Where
+    found k = go (k .set) (k .counts) (k .left) (k .right)
       where
         S : Semiautomaton
         S = successors n m starts sets
 
-        go : (T : Critical) → Counts S T → member S T s ≡ true → member S T t ≡ true
-            → ((has starts s && has starts t) ≡ true)
-            ⊎ ((q : ℕ) × (a : ℕ) × (q < n) × (a < m) × (has reached q ≡ true) × (both m sets q s t a ≡ true))
+        go : (T : Critical) → Counts S T → member S T s ≡ true → member S T t ≡ true → Where
         go initial _ p q = inl (and-in _ _ p q)
         go (fork q a) (c, _) p r =
             let (h, g, x) = edge-out n m starts sets q a s p in
@@ -136,7 +141,7 @@ module _ (n m starts : ℕ) (sets : List ℕ) where
     pub together-none : (has starts s && has starts t) ≡ false
         → ((i : ℕ) → i < n * m → ((has (getD sets i 0) s && has (getD sets i 0) t) && has reached (i / m)) ≡ false)
         → ¬ Together (successors n m starts sets) s t
-    together-none p f k = elim (by-places k) [
+    together-none p f k = elim (found k) [
       | inl d ↦ false≢true (sym p ∙ d)
       | inr (q, a, h, g, r, d) ↦
           false≢true (sym (f (place m q a) (place-lt n m q a h g)) ∙ and-in _ _ d (rw (place-state m q a g) r))
@@ -149,18 +154,11 @@ module _ (n m starts : ℕ) (sets : List ℕ) where
           let (q, h, d) = any-out n _ d in
           let (r, d) = and-out (has reached q) _ d in
           let (a, g, d) = any-out m _ d in
-          let (x, y) = and-out (has (setAt m sets q a) s) _ d in
-          let p = edge-is n m starts sets q a s h g ∙ x in
-          record {
-            set = fork q a;
-            counts = (reached-out (successors n m starts sets) R q r, (s, p));
-            left = p;
-            right = edge-is n m starts sets q a t h g ∙ y;
-          }
+          together-fork q a h g r d
     ]
 
     rival-in : Together (successors n m starts sets) s t → (has starts s && has starts t || any n (forks m reached sets s t)) ≡ true
-    rival-in k = elim (by-places k) [
+    rival-in k = elim (found k) [
       | inl d ↦ or-left (has starts s && has starts t) _ d
       | inr (q, a, h, g, r, d) ↦
           or-right (has starts s && has starts t) _ (any-in n _ q h (and-in _ _ r (any-in m _ a g d)))

@@ -26,7 +26,7 @@ pub struct Name {
     pub letter: u32,
 }
 
-// One that counts and has both states.
+// A critical set that counts and has both states.
 pub fn critical_set(
     sets: &[u64],
     n: usize,

@@ -93,7 +93,7 @@ module _ (A : Asked) (P : Proper A) where
     ready-so = λ k old letters a. ready a .1;
     bound = λ k old letters a. lookahead-bound (A .means) (P .sized (ready a .0) .within) k (ready a .1);
     bound-one-letter = λ one k old letters a. lookahead-bound-one (A .means) (P .sized (ready a .0) .within) one k (ready a .1);
-    never-more = λ k j old letters a. never-more (A .means) k j (ready a .1);
+    never-more = λ j k old letters a. never-more (A .means) j k (ready a .1);
     wide-missing = λ e old letters s. wide-missing (A .means) (shown-never (never s .1));
     compared = λ k old letters a. trim-lookahead (A .means) (P .sized (ready a .0) .within) k .0 (ready a .1);
     compared-missing = λ e old letters s. trim-unpredictable (A .means) (P .sized (never s .0) .within) .0 (shown-never (never s .1));

@@ -51,8 +51,8 @@ pub record Theorems (A : Asked) : Type 0 where
   -- both bounds of k
   pub bound : (k : ℕ) (old letters : List ℕ) → EitherCall A (Ready k) old letters → k ≤ A .means .n * (A .means .n - 1) / 2
   pub bound-one-letter : A .means .m ≡ 1 → (k : ℕ) (old letters : List ℕ) → EitherCall A (Ready k) old letters → k ≤ A .means .n - 1
-  -- W-202: k is no more than where every critical set counts, and 15 is said of no plan that has a k then
-  pub never-more : (k j : ℕ) (old letters : List ℕ) → EitherCall A (Ready k) old letters → LookaheadWide (A .means) j → k ≤ j
+  -- W-202: what is answered is no more than where every critical set counts, and 15 is said of no plan that has a k then
+  pub never-more : (j k : ℕ) (old letters : List ℕ) → EitherCall A (Ready j) old letters → LookaheadWide (A .means) k → j ≤ k
   pub wide-missing : (e : Evidence) (old letters : List ℕ) → EitherCall A (Unpredictable e) old letters → UnpredictableWide (A .means)
   -- 003 compared: what is answered is what 003 has of the plan without its unreachable states
   pub compared : (k : ℕ) (old letters : List ℕ) → EitherCall A (Ready k) old letters → LookaheadWide (trim (A .means)) k

@@ -36,6 +36,7 @@ theorems S = record {
   trimmed-within = wide.trim-within S;
   trimmed-accessible = wide.trim-accessible S;
   trimmed-edge = wide.trim-edge-out S;
+  trimmed-kept = wide.trim-edge S;
   level = λ W j s t. (levels.live-out S j s t, levels.live-in S W);
   level-set = λ W X below j. (decide.clashIn-out S X j, decide.clashIn-in S W X below j);
   level-counts = λ W T. (decide.counts-out S T, decide.counts-in S W T);

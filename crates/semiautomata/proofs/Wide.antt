@@ -70,7 +70,7 @@ module _ (S : Semiautomaton) where
       )
 
   module _ (W : Within S) where
-    trim-edge : (q a t : ℕ) → Accessible S q → S .edge q a t ≡ true → trim S .edge q a t ≡ true
+    pub trim-edge : (q a t : ℕ) → Accessible S q → S .edge q a t ≡ true → trim S .edge q a t ≡ true
     trim-edge q a t c e = and-in _ _ (accessible-in S W q c) e
 
     trim-path : (w : List ℕ) (s t : ℕ) → Accessible S s → Path S s w t → Path (trim S) s w t

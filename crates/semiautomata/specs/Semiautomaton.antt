@@ -35,7 +35,7 @@ pub record Accessible (S : Semiautomaton) (q : ℕ) : Type 0 where
   pub word : List ℕ
   pub path : Path S start word q
 
--- Some walk reaches the set X: every state of it is accessible.
+-- Every state of the set X is accessible.
 abbrev pub Reached : Semiautomaton → (ℕ → Bool) → Type 0
 Reached S X = (s : ℕ) → X s ≡ true → Accessible S s
 

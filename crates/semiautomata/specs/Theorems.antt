@@ -45,16 +45,17 @@ pub record Theorems (S : Semiautomaton) : Type 0 where
   -- ACCESSIBLE STATES (W-202)
   -- the test that computes says what it means
   pub accessible-is : Within S → (q : ℕ) → (accessible S q ≡ true) ↔ Accessible S q
-  -- the sets that count ask for no more letters than all sets do, and no k is missing where these have one
+  -- the sets that count ask for no more letters than all sets do, and where they have no k, all sets have none
   pub never-more : (j k : ℕ) → Lookahead S j → LookaheadWide S k → j ≤ k
   pub wide-missing : Unpredictable S → UnpredictableWide S
   -- 003 compared: the look-ahead of S is exactly 003's of S without its unreachable states, and there is none where 003 has none
   pub trimmed : Within S → (k : ℕ) → Lookahead S k ↔ LookaheadWide (trim S) k
   pub trimmed-missing : Within S → Unpredictable S ↔ UnpredictableWide (trim S)
-  -- what is left is a semiautomaton of the same accessible states, and every state of an edge is one of them
+  -- what is left is a semiautomaton of the same accessible states; every state of an edge is one of them, and no edge of theirs is lost
   pub trimmed-within : Within S → Within (trim S)
   pub trimmed-accessible : Within S → (q : ℕ) → Accessible S q ↔ Accessible (trim S) q
   pub trimmed-edge : (q a t : ℕ) → trim S .edge q a t ≡ true → Accessible S q × Accessible S t
+  pub trimmed-kept : Within S → (q a t : ℕ) → Accessible S q → S .edge q a t ≡ true → trim S .edge q a t ≡ true
   -- LEVELS
   -- level j has the pairs that share a word of j letters; a clash at level j is two rivals among them
   pub level : Within S → (j s t : ℕ) → (live S j s t ≡ true) ↔ Share S j s t

@@ -35,7 +35,7 @@ pub record Matched (set : ℕ) (old new : List ℕ) : Type 0 where
 abbrev pub both : ℕ → List ℕ → ℕ → ℕ → ℕ → ℕ → Bool
 both m sets q s t a = has (setAt m sets q a) s && has (setAt m sets q a) t
 
--- so are the different states of each fork set of q, by a letter below i
+-- the different states of each fork set of q by a letter below i are paired with each other, and no other two are
 pub record Forked (m : ℕ) (sets : List ℕ) (q i : ℕ) (old new : List ℕ) : Type 0 where
   pub long : length new ≡ length old
   pub is : (s t : ℕ) → ¬ (s ≡ t) → pair new s t ≡ (pair old s t || any i (both m sets q s t))
@@ -45,7 +45,7 @@ pub record Rivalry (S : Semiautomaton) (rows : List ℕ) : Type 0 where
   pub from : (s t : ℕ) → ¬ (s ≡ t) → pair rows s t ≡ true → Together S s t
   pub into : (s t : ℕ) → ¬ (s ≡ t) → Together S s t → pair rows s t ≡ true
 
--- low and high are together in some critical set and share words of every length, and so do exactly the pairs of the rows
+-- low and high are together in some critical set that counts and share words of every length, and so do exactly the pairs of the rows
 pub record Endless (n m starts : ℕ) (sets rows : List ℕ) (low high : ℕ) : Type 0 where
   pub lasting : Lasting (successors n m 0 sets) rows
   pub order : low < high
