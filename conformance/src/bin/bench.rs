@@ -218,7 +218,6 @@ fn main() {
         ("dense, 4,096 lines downhill over 64 × 32", full.clone()),
         ("dense, 4,096 lines downhill over 64 × 4", downhill(&mut r, 4, MAX_LINES).bytes()),
         ("dense, 4,096 lines from half to half over 64 × 4", draft(64, 4, &[7], &across).bytes()),
-        ("dense, the same with 32 starts", draft(64, 4, &half, &across).bytes()),
         ("sparse, 200 lines downhill over 64 × 4", downhill(&mut r, 4, 200).bytes()),
         ("sparse, deterministic over 64 × 32", deterministic(&mut r, MAX_CODES).bytes()),
         ("ladder of 31 over 63 × 2", ladder(31, 2).bytes()),
@@ -230,6 +229,7 @@ fn main() {
         ("unpredictable, 150 random lines over 64 × 2", any_lines(&mut r, 2, 150).bytes()),
         ("unpredictable, loop after 1,023 codes, 64 × 4", late_loop.bytes()),
         ("half of the stakes abandoned, 4,096 lines over 64 × 32", half_abandoned(&mut own, MAX_CODES, MAX_LINES).bytes()),
+        ("dense, 4,096 lines from half to half over 64 × 4, 32 starts", draft(64, 4, &half, &across).bytes()),
     ];
     for (name, plan) in &plans {
         let reply = agreed(&|calls| calls.look_ahead(plan, &mut [0; LETTERS], &mut [0; EVIDENCE]));
