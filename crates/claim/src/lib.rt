@@ -55,8 +55,8 @@ fn has_lasso(sets: &[u64], n: usize, m: usize, s: u32, stem: &[u8], cycle: &[u8]
     requires { ⌜ Fit n m (now sets) × (s < n) × Letters m (now stem) × Letters m (now cycle) ⌝ }
     ensures { λ r. ⌜ ((starts : ℕ) → Loops (successors n m starts (now (sets .entry))) s (now (stem .entry)) (now (cycle .entry)) r) ⌝ }
 {
-    let reached = walks::reach_by(sets, n, m, bitset::singleton(s), stem);
-    comes_back(sets, n, m, reached, cycle)
+    let knots = walks::reach_by(sets, n, m, bitset::singleton(s), stem);
+    comes_back(sets, n, m, knots, cycle)
 }
 
 // The claim about sets that are loaded.
