@@ -8,7 +8,7 @@ use native.Mathlib.Omega.{arith}
 use native.Mathlib.Nat.{suc-inj}
 use native.Mathlib.Decide.{ℕ-discrete}
 use lib.Dec.{eqb}
-use borrow.Author.Tests.{eq-eqb, ne-eqb}
+use borrow.Author.Tests.{eq-eqb, ne-eqb, eqb-true}
 use Rattle.bitset.specs.Sets.{any, one-if, size, least}
 use Rattle.bitset.proofs.Tests.{and-in, and-out, or-left, or-right, or-cases, not-so, decided, same-test}
 
@@ -170,6 +170,23 @@ size-without (suc n) p x h e = elim (ℕ-discrete x n) [
       (omega (arith, size-cong n (λ t. p t && not (eqb x t)) p (λ t g. rw (ne-eqb x t (λ r. omega arith), and-true))))
   | no q ↦ rw (ne-eqb x n q, and-true) (omega (arith, size-without n p x (omega arith) e))
 ]
+
+size-mono : (n : ℕ) (p q : ℕ → Bool) → ((x : ℕ) → p x ≡ true → q x ≡ true) → size n p ≤ size n q
+unfolding size
+size-mono zero p q h = omega arith
+size-mono (suc n) p q h = omega (arith, size-mono n p q h, last (p n) (q n) (h n))
+  where
+    last : (a b : Bool) → (a ≡ true → b ≡ true) → one-if a ≤ one-if b
+    last true b h = rw (h refl) (omega arith)
+    last false b h = omega arith
+
+-- where q has all that p has, and z besides
+pub size-fewer : (n : ℕ) (p q : ℕ → Bool) → ((x : ℕ) → p x ≡ true → q x ≡ true) → (z : ℕ) → z < n → p z ≡ false → q z ≡ true
+    → size n p < size n q
+size-fewer n p q h z k e f = omega (arith, size-without n q z k f, size-mono n p (λ x. q x && not (eqb z x)) kept)
+  where
+    kept : (x : ℕ) → p x ≡ true → (q x && not (eqb z x)) ≡ true
+    kept x g = and-in _ _ (h x g) (rw (not-so (eqb z x) (λ d. false≢true (sym e ∙ (rw (← eqb-true z x d) at g)))))
 
 -- THE LEAST
 

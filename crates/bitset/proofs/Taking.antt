@@ -79,12 +79,6 @@ at-one z k q = go (eqb z k) refl
     go true e = rw (eqb-true z k e)
     go false e = rw e
 
--- with z put in, some member passes q if one did before, or z does
-pub any-insert : (n set z : ℕ) → z < n → n ≤ 64 → (q : ℕ → Bool)
-    → any n (λ k. has (bitOr set ((1 * 2 ^ z) % 2 ^ 64)) k && q k) ≡ (any n (λ k. has set k && q k) || q z)
-any-insert n set z h w q =
-    any-cong n _ _ (λ k _. rw (has-insert 64 set z k (lt-of-lt-of-le h w), and-or-distrib-right, at-one z k q)) ∙ any-add n _ z (q z) h
-
 module _ {n set rest : ℕ} (l : Left n set rest) (p : 0 < rest) where
   in-word : rest < 2 ^ 64
   in-word = lt-of-lt-of-le (l .below) (pow-mono (l .width))
@@ -106,19 +100,22 @@ module _ {n set rest : ℕ} (l : Left n set rest) (p : 0 < rest) where
     inside = λ k e. l .inside k (and-out (has rest k) _ (rw (has-strike 64 rest k in-word) at e) .0);
   }
 
-  -- taken and passing q: taken before, or the least of the rest, where it passes
+  -- taken: before, or as the least of the rest
+  pub taken-with : (k : ℕ) → taken set (bitAnd rest (rest - 1)) k ≡ (taken set rest k || eqb (trailingZeros 64 rest) k)
+  taken-with k =
+      let z = trailingZeros 64 rest in
+      rw (has-strike 64 rest k in-word) (struck (has set k) (has rest k) (eqb z k) (λ e. rw (eqb-true z k e) at least-in))
+
+  -- and passing q
   taken-next : (q : ℕ → Bool) (k : ℕ)
       → (taken set (bitAnd rest (rest - 1)) k && q k)
       ≡ (taken set rest k && q k || eqb (trailingZeros 64 rest) k && q (trailingZeros 64 rest))
-  taken-next q k =
-      let z = trailingZeros 64 rest in
-      rw (
-        has-strike 64 rest k in-word,
-        struck (has set k) (has rest k) (eqb z k)
-            (λ e. rw (eqb-true z k e) at least-in),
-        and-or-distrib-right,
-        at-one z k q,
-      )
+  taken-next q k = rw (taken-with k, and-or-distrib-right, at-one (trailingZeros 64 rest) k q)
+
+  -- some number taken passes q: one taken before, or the least of the rest
+  pub any-next : (q : ℕ → Bool)
+      → any n (λ k. taken set (bitAnd rest (rest - 1)) k && q k) ≡ (any n (λ k. taken set rest k && q k) || q (trailingZeros 64 rest))
+  any-next q = any-cong n _ _ (λ k _. taken-next q k) ∙ any-add n _ _ _ least-below
 
   pub passed-next : {q : ℕ → Bool} → q (trailingZeros 64 rest) ≡ false → Passed set rest q → Passed set (bitAnd rest (rest - 1)) q
   passed-next {q} e o = record { fails = λ k. rw (taken-next q k, o .fails k, e, and-false) }
@@ -140,7 +137,7 @@ module _ {n set rest : ℕ} (l : Left n set rest) (p : 0 < rest) where
   pub joined-next : {f : ℕ → ℕ} {out : ℕ} → Joined n set rest f out
       → Joined n set (bitAnd rest (rest - 1)) f (bitOr out (f (trailingZeros 64 rest)))
   joined-next {f} j = record {
-    members = λ t. rw (has-or, j .members t) (sym (any-cong n _ _ (λ s h. taken-next (λ s. has (f s) t) s) ∙ any-add n _ _ _ least-below));
+    members = λ t. rw (has-or, j .members t) (sym (any-next (λ s. has (f s) t)));
   }
 
   pub counted-next : {turns : ℕ} → Counted set rest turns → Counted set (bitAnd rest (rest - 1)) (turns + 1)
@@ -153,7 +150,7 @@ all-setOf : (n : ℕ) (p : ℕ → Bool) (r : ℕ) → ((t : ℕ) → has r t �
 all-setOf n p r f g = is-setOf n p r (fits n r (λ t h. f t ∙ g t h)) (λ t h. f t)
 
 module _ {n set rest : ℕ} (l : Left n set rest) (e : rest ≡ 0) where
-  taken-all : (k : ℕ) → taken set rest k ≡ has set k
+  pub taken-all : (k : ℕ) → taken set rest k ≡ has set k
   taken-all k = rw (e, has-empty, and-true)
 
   pub passed-all : {q : ℕ → Bool} → Passed set rest q → any n (λ k. has set k && q k) ≡ false

@@ -1,38 +1,46 @@
 -- Rivals: the critical sets that count, their pairs in rows, and what the shared words of rivals say of the look-ahead.
 -- Assumes nothing.
-use mathlib.Core.Bool.{Bool, true, false, _&&_, _||_, false≢true, or-false, or-assoc}
-use mathlib.Core.Path.{_≡_, refl, sym, _∙_}
+use mathlib.Core.Bool.{Bool, true, false, _&&_, _||_, false≢true, and-true, or-false, or-assoc}
+use mathlib.Core.Path.{_≡_, refl, sym, _∙_, ap}
 use mathlib.Core.Logic.{_⊎_, inl, inr}
 use mathlib.Core.List.{List}
-use Prim.Native.Nat.{ℕ, _+_, _-_, _*_, _/_, _%_, _^_, _≤_, _<_}
+use Prim.Native.Nat.{ℕ, _+_, _-_, _^_, _<_}
 use native.Mathlib.Numerals.{add-one}
+use native.Mathlib.Nat.{lt-of-lt-of-le}
 use native.Mathlib.Omega.{arith}
-use lib.Bits.{bitAnd}
+use lib.Bits.{bitAnd, bitOr}
 use lib.Count.{trailingZeros}
 use lib.Dec.{eqb}
-use lib.ListN.{length, getD, replicate}
+use lib.ListN.{length, replicate}
+use lib.Pow.{pow-mono}
 use borrow.Author.Tests.{lt-ltb, eqb-true, ne-eqb}
 use Rattle.bitset.specs.Sets.{any}
 use Rattle.bitset.specs.Numbers.{has, setOf}
-use Rattle.bitset.proofs.Tests.{and-in, and-out, or-left, or-right, or-cases, not-so, decided}
-use Rattle.bitset.proofs.Below.{any-in, any-out, any-none}
-use Rattle.bitset.proofs.Bits.{has-empty}
+use Rattle.bitset.proofs.Tests.{and-in, and-out, or-left, or-right, or-cases, or-none, not-so, decided}
+use Rattle.bitset.proofs.Below.{any-in, any-out, any-none, any-cong}
+use Rattle.bitset.proofs.Bits.{has-or, has-empty, none-empty}
 use Rattle.bitset.proofs.Members.{has-strike}
-use Rattle.bitset.proofs.Taking.{any-insert}
+use Rattle.bitset.proofs.Taking.{Left, taken, any-next}
 use Rattle.semiautomata.specs.Semiautomaton.{Semiautomaton}
 use Rattle.semiautomata.specs.Access.{accessible}
 use Rattle.semiautomata.specs.Predictability.{Critical, initial, fork, member, Counts, Lookahead}
-use Rattle.semiautomata.specs.Successors.{place, setAt, successors, Fit}
+use Rattle.semiautomata.specs.Successors.{setAt, successors, Fit}
 use Rattle.semiautomata.proofs.Shares.{share-swap, rivals-lt, clash-ordered}
-use Rattle.semiautomata.proofs.Successors.{place-lt, edge-out, edge-is, state-lt, letter-lt, place-of, fit-within}
+use Rattle.semiautomata.proofs.Successors.{edge-out, edge-is, fit-within}
 use Rattle.rows.specs.Rows.{pair, Put, Common}
-use Rattle.semiautomata.proofs.Places.{place-state, zeros-at}
-use Rattle.walks.proofs.Reaching.{andDone, reached-in, reached-out}
+use Rattle.semiautomata.proofs.Places.{place-fits, zeros-at}
+use Rattle.walks.proofs.Reaching.{reached-in, reached-out}
 use Rattle.pairs.specs.Sharing.{Parted, Lasting}
 use Rattle.pairs.proofs.Starts.{share-starts}
 use Rattle.lookahead.specs.inner.Rivals.{Together, Named, Matched, both, Forked, Rivalry, Endless}
 
 -- A SET WITH ITSELF
+
+or-empty : (a b : ℕ) → bitOr a b ≡ 0 → (a ≡ 0) × (b ≡ 0)
+or-empty a b e = (none-empty a (λ t. none t .0), none-empty b (λ t. none t .1))
+  where
+    none : (t : ℕ) → (has a t ≡ false) × (has b t ≡ false)
+    none t = or-none _ _ (sym (has-or a b t) ∙ rw e (has-empty t))
 
 -- with one state or none no two are different
 pub alone : (set : ℕ) → set < 2 ^ 64 → bitAnd set (set - 1) ≡ 0 → (s t : ℕ) → ¬ (s ≡ t) → (has set s && has set t) ≡ false
@@ -62,26 +70,47 @@ module _ {m : ℕ} {sets : List ℕ} {q : ℕ} where
   unfolding any
   forked-next p f = rw add-one (record { long = p .long ∙ f .long; is = λ s t d. rw (p .is s t d, f .is s t d, or-assoc) })
 
--- THE FORK SETS OF THE STATES DONE
+  -- as long as no set has two states there is nothing to pair
+  pub unforked-next : {n : ℕ} → Fit n m sets → {i several : ℕ} {rows : List ℕ} → q < n → i < m
+      → (several ≡ 0 → Forked m sets q i rows rows)
+      → bitOr several (bitAnd (setAt m sets q i) (setAt m sets q i - 1)) ≡ 0 → Forked m sets q (i + 1) rows rows
+  unforked-next F {i} {several} h g f e =
+      let word = lt-of-lt-of-le (place-fits F q i h g) (pow-mono (F .states)) in
+      let (none, one) = or-empty several _ e in
+      forked-next (matched-none (alone _ word one)) (f none)
 
--- q is one of them, and some letter leads to both s and t from it
-abbrev forks : (m done : ℕ) (sets : List ℕ) (s t q : ℕ) → Bool
-forks m done sets s t q = has done q && any m (both m sets q s t)
+-- THE FORK SETS OF THE STATES TAKEN
 
--- the rows have the rivals of these sets, beside those of old
-pub record Gathered (n m done : ℕ) (sets old rows : List ℕ) : Type 0 where
-  pub long : length rows ≡ length old
-  pub is : (s t : ℕ) → ¬ (s ≡ t) → pair rows s t ≡ (pair old s t || any n (forks m done sets s t))
+-- q is one of those asked for, and some letter leads to both s and t from it
+abbrev pub forks : (asked : ℕ → Bool) (m : ℕ) (sets : List ℕ) (s t q : ℕ) → Bool
+forks asked m sets s t q = asked q && any m (both m sets q s t)
 
-module _ {n m : ℕ} {sets old : List ℕ} where
-  pub gathered-first : Gathered n m 0 sets old old
-  gathered-first = record { long = refl; is = λ s t d. rw (any-none n (forks m 0 sets s t) (λ q _. rw (has-empty q)), or-false) }
+-- the rows have the rivals of the initial states and of these sets
+pub record Gathered (n m starts done rest : ℕ) (sets rows : List ℕ) : Type 0 where
+  pub long : length rows ≡ 64
+  pub is : (s t : ℕ) → ¬ (s ≡ t) → pair rows s t ≡ (has starts s && has starts t || any n (forks (taken done rest) m sets s t))
 
-  pub gathered-next : {mid new : List ℕ} {done q : ℕ} → q < n → n ≤ 64 → Forked m sets q m mid new → Gathered n m done sets old mid
-      → Gathered n m (andDone done q) sets old new
-  gathered-next {done = done} {q = q} h w f g = record {
+module _ {n m starts : ℕ} {sets : List ℕ} where
+  pub gathered-first : {rows : List ℕ} → Matched starts (replicate 64 0) rows → Gathered n m starts 0 0 sets rows
+  gathered-first p = record {
+    long = p .long;
+    is = λ s t d.
+        rw (p .is s t d, zeros-at 64 s, has-empty t, any-none n (forks (taken 0 0) m sets s t) (λ q _. rw (has-empty q)), or-false);
+  }
+
+  -- where the same have been taken
+  pub gathered-same : {rows : List ℕ} {done rest more left : ℕ} → ((q : ℕ) → taken more left q ≡ taken done rest q)
+      → Gathered n m starts done rest sets rows → Gathered n m starts more left sets rows
+  gathered-same f g = record {
+    long = g .long;
+    is = λ s t d. g .is s t d ∙ ap (has starts s && has starts t ||_) (any-cong n _ _ (λ q _. rw (f q)));
+  }
+
+  pub gathered-next : {old new : List ℕ} {done rest : ℕ} → Left n done rest → 0 < rest → Forked m sets (trailingZeros 64 rest) m old new
+      → Gathered n m starts done rest sets old → Gathered n m starts done (bitAnd rest (rest - 1)) sets new
+  gathered-next l p f g = record {
     long = f .long ∙ g .long;
-    is = λ s t d. rw (f .is s t d, g .is s t d, any-insert n done q h w (λ q. any m (both m sets q s t)), or-assoc);
+    is = λ s t d. rw (f .is s t d, g .is s t d, any-next l p (λ q. any m (both m sets q s t)), or-assoc);
   }
 
 -- THE CRITICAL SETS THAT COUNT
@@ -107,16 +136,13 @@ module _ (n m starts : ℕ) (sets : List ℕ) where
           right = edge-is n m starts sets q a t h g ∙ y;
         }
 
-    pub names-fork : (i : ℕ) → i < n * m → (has (getD sets i 0) s && has (getD sets i 0) t) ≡ true → has reached (i / m) ≡ true
-        → Named (successors n m starts sets) (i / m) (i % m) s t
+    pub names-fork : (q a : ℕ) → q < n → a < m → has reached q ≡ true → both m sets q s t a ≡ true
+        → Named (successors n m starts sets) q a s t
     unfolding together-fork
-    names-fork i h e r =
-        let x = state-lt n m i h in
-        let y = letter-lt n m i h in
-        record {
-          together = together-fork (i / m) (i % m) x y r (rw (place-of n m i h) e);
-          names = rw (ne-eqb (i / m) 255 (λ e. omega (arith, F .states)), lt-ltb (i / m) n x, lt-ltb (i % m) m y);
-        }
+    names-fork q a h g r e = record {
+      together = together-fork q a h g r e;
+      names = rw (ne-eqb q 255 (λ e. omega (arith, F .states)), lt-ltb q n h, lt-ltb a m g);
+    }
 
     -- two states are together in the initial states, or in the fork set of a reached state
     abbrev Where : Type 0
@@ -137,17 +163,7 @@ module _ (n m starts : ℕ) (sets : List ℕ) where
             let y = edge-out n m starts sets q a t r .2 in
             inr (q, a, h, g, reached-in S R q (fit-within n m starts sets F H) h c, and-in _ _ x y)
 
-    -- the search has passed every critical set that counts
-    pub together-none : (has starts s && has starts t) ≡ false
-        → ((i : ℕ) → i < n * m → ((has (getD sets i 0) s && has (getD sets i 0) t) && has reached (i / m)) ≡ false)
-        → ¬ Together (successors n m starts sets) s t
-    together-none p f k = elim (found k) [
-      | inl d ↦ false≢true (sym p ∙ d)
-      | inr (q, a, h, g, r, d) ↦
-          false≢true (sym (f (place m q a) (place-lt n m q a h g)) ∙ and-in _ _ d (rw (place-state m q a g) r))
-    ]
-
-    rival-out : (has starts s && has starts t || any n (forks m reached sets s t)) ≡ true → Together (successors n m starts sets) s t
+    rival-out : (has starts s && has starts t || any n (forks (has reached) m sets s t)) ≡ true → Together (successors n m starts sets) s t
     rival-out e = elim (or-cases (has starts s && has starts t) _ e) [
       | inl d ↦ names-initial s t d .together
       | inr d ↦
@@ -157,25 +173,29 @@ module _ (n m starts : ℕ) (sets : List ℕ) where
           together-fork q a h g r d
     ]
 
-    rival-in : Together (successors n m starts sets) s t → (has starts s && has starts t || any n (forks m reached sets s t)) ≡ true
+    rival-in : Together (successors n m starts sets) s t → (has starts s && has starts t || any n (forks (has reached) m sets s t)) ≡ true
     rival-in k = elim (found k) [
       | inl d ↦ or-left (has starts s && has starts t) _ d
       | inr (q, a, h, g, r, d) ↦
           or-right (has starts s && has starts t) _ (any-in n _ q h (and-in _ _ r (any-in m _ a g d)))
     ]
 
+    -- the search has passed every critical set that counts
+    pub together-none : (has starts s && has starts t) ≡ false → ((q : ℕ) → q < n → forks (has reached) m sets s t q ≡ false)
+        → ¬ Together (successors n m starts sets) s t
+    together-none p f k = false≢true (sym (rw (p, any-none n _ f)) ∙ rival-in k)
+
   -- the rows of rivals
   pub rivalry : Fit n m sets → starts < 2 ^ n → {reached : ℕ} → reached ≡ setOf n (accessible (successors n m starts sets))
-      → {done : ℕ} → reached ≡ done
-      → {first rows : List ℕ} → Matched starts (replicate 64 0) first → Gathered n m done sets first rows
-      → Rivalry (successors n m starts sets) rows
-  rivalry F H {reached} R e {first} {rows} p g = record {
+      → {done : ℕ} → reached ≡ done → {rows : List ℕ} → Gathered n m starts done 0 sets rows → Rivalry (successors n m starts sets) rows
+  rivalry F H {reached} R e {rows} g = record {
     from = λ s t d e. rival-out F H R s t (sym (is s t d) ∙ e);
     into = λ s t d k. is s t d ∙ rival-in F H R s t k;
   }
     where
-      is : (s t : ℕ) → ¬ (s ≡ t) → pair rows s t ≡ (has starts s && has starts t || any n (forks m reached sets s t))
-      is s t d = rw (g .is s t d, p .is s t d, zeros-at 64 s, has-empty t, e)
+      is : (s t : ℕ) → ¬ (s ≡ t) → pair rows s t ≡ (has starts s && has starts t || any n (forks (has reached) m sets s t))
+      is s t d =
+          rw (g .is s t d, e) (ap (has starts s && has starts t ||_) (any-cong n _ _ (λ q _. rw (has-empty q, and-true))))
 
   -- WHAT SHARED WORDS SAY OF RIVALS
 

@@ -1,7 +1,8 @@
 // Which pairs of states are rivals, from the critical sets that count: the initial states, and the fork sets of the states that some walk
 // reaches.
 ghost use mathlib.Core.Path.{_≡_};
-ghost use Prim.Native.Nat.{_^_, _<_};
+ghost use Prim.Native.Nat.{_-_, _^_, _<_};
+ghost use lib.Bits.{bitAnd};
 ghost use lib.ListN.{length};
 ghost use Rattle.bitset.specs.Numbers.{setOf};
 ghost use Rattle.semiautomata.specs.Access.{accessible};
@@ -9,12 +10,22 @@ ghost use Rattle.semiautomata.specs.Successors.{successors, Fit};
 ghost use Rattle.walks.specs.Walking.{ledBy};
 ghost use Rattle.lookahead.specs.inner.Rivals.{Matched, Forked, Rivalry};
 
+// The set without its least state.
+fn but_least(set: u64) -> u64
+    ensures { λ r. ⌜ r ≡ bitAnd set (set - 1) ⌝ }
+{
+    if set == 0 {
+        return 0;
+    }
+    set & (set - 1)
+}
+
 // The states of the set are paired with each other; of fewer than two there is nothing to pair.
 fn pair_set(rows: &mut [u64; 64], set: u64)
     requires { ⌜ length (now rows) ≡ 64 ⌝ }
     ensures { λ r. ⌜ Matched set (now (rows .entry)) (now (rows .exit)) ⌝ }
 {
-    if set != 0 && set & (set - 1) != 0 {
+    if but_least(set) != 0 {
         rows::pair_up(rows, set, set);
     }
 }
@@ -26,10 +37,17 @@ fn pair_forks(rows: &mut [u64; 64], sets: &[u64], n: usize, m: usize, q: usize) 
         × (r ≡ setOf n (ledBy m (now (sets .entry)) q m)) ⌝ }
 {
     let mut out: u64 = 0;
+    let mut several: u64 = 0;
     for a in 0..m {
         let set = sets[q * m + a];
-        pair_set(rows, set);
         out |= set;
+        several |= but_least(set);
+    }
+    // some set has two states
+    if several != 0 {
+        for a in 0..m {
+            pair_set(rows, sets[q * m + a]);
+        }
     }
     out
 }
@@ -40,8 +58,8 @@ pub struct Paired {
     pub reached: u64,
 }
 
-// The pairs of different states that some critical set that counts has both of. The sets are passed over once: a state is taken as in
-// `walks::reachable`, and its fork sets are paired while they are joined.
+// The pairs of different states that some critical set that counts has both of. A state is taken as in `walks::reachable`, and its fork
+// sets are paired when they are joined.
 pub fn rivals(sets: &[u64], n: usize, m: usize, starts: u64) -> Paired
     requires { ⌜ Fit n m (now sets) × (starts < 2 ^ n) ⌝ }
     ensures { λ r. ⌜ Rivalry (successors n m starts (now (sets .entry))) (r .rows)
@@ -52,9 +70,13 @@ pub fn rivals(sets: &[u64], n: usize, m: usize, starts: u64) -> Paired
     let mut seen = starts;
     let mut done: u64 = 0;
     while seen != done {
-        let q = u64::trailing_zeros(seen ^ done) as usize;
-        done |= 1 << q;
-        seen |= pair_forks(&mut rows, sets, n, m, q);
+        let mut rest = seen ^ done;
+        done = seen;
+        while rest != 0 {
+            let q = u64::trailing_zeros(rest) as usize;
+            seen |= pair_forks(&mut rows, sets, n, m, q);
+            rest &= rest - 1;
+        }
     }
     Paired {
         rows,

@@ -46,12 +46,15 @@ pub fn critical_set(
             letter: 0,
         };
     }
-    for i in 0..n * m {
-        if has_both(sets[i], s, t) {
-            let state = (i / m) as u32;
-            if bitset::contains(reached, state) {
-                let letter = (i % m) as u32;
-                return Name { state, letter };
+    for q in 0..n {
+        if bitset::contains(reached, q as u32) {
+            for a in 0..m {
+                if has_both(sets[q * m + a], s, t) {
+                    return Name {
+                        state: q as u32,
+                        letter: a as u32,
+                    };
+                }
             }
         }
     }

@@ -174,8 +174,8 @@ fn leads_to(sets: &[u64], n: usize, m: usize, s: usize) -> u64
     out
 }
 
-// The states that some walk from an initial state reaches: the least of what is to do is taken and what its letters lead to is joined,
-// until nothing is to do. To do is what is seen and not done.
+// The states that some walk from an initial state reaches: of what is seen and not done each state is taken, and what its letters lead to
+// is joined, until nothing is to do.
 pub fn reachable(sets: &[u64], n: usize, m: usize, starts: u64) -> u64
     requires { ⌜ Fit n m (now sets) × (starts < 2 ^ n) ⌝ }
     ensures { λ r. ⌜ r ≡ setOf n (accessible (successors n m starts (now (sets .entry)))) ⌝ }
@@ -183,9 +183,13 @@ pub fn reachable(sets: &[u64], n: usize, m: usize, starts: u64) -> u64
     let mut seen = starts;
     let mut done: u64 = 0;
     while seen != done {
-        let s = u64::trailing_zeros(seen ^ done) as usize;
-        done |= 1 << s;
-        seen |= leads_to(sets, n, m, s);
+        let mut rest = seen ^ done;
+        done = seen;
+        while rest != 0 {
+            let s = u64::trailing_zeros(rest) as usize;
+            seen |= leads_to(sets, n, m, s);
+            rest &= rest - 1;
+        }
     }
     seen
 }

@@ -1,62 +1,84 @@
--- `rivals::rivals` meets its contract. Each turn the fork sets of one reached state more are paired and joined.
+-- `rivals::rivals` meets its contract. Each turn all reached states that were to do are taken, and their fork sets paired and joined.
 -- Assumes nothing.
 use Prim.Native.Nat.{_<_}
 use mathlib.Core.Bool.{not}
-use mathlib.Core.Path.{refl, _∙_}
+use mathlib.Core.Path.{refl}
 use native.Mathlib.Omega.{arith}
+use lib.Count.{trailingZeros}
 use Rattle.bitset.specs.Sets.{size}
 use Rattle.bitset.specs.Numbers.{has}
+use Rattle.bitset.proofs.Members.{strike-less}
+use Rattle.bitset.proofs.Taking.{least-below}
 use Rattle.semiautomata.specs.Successors.{successors}
-use Rattle.walks.proofs.Reaching.{Reaching, toDo, least-below, left-less, reached-first, reached-next, reached-all}
-use Rattle.lookahead.proofs.Rivalry.{Gathered, gathered-first, gathered-next, rivalry}
+use Rattle.walks.proofs.Reaching.{Reaching, front-taken, reaching-front, fewer-left, reached-first, reached-next, reached-all}
+use Rattle.lookahead.proofs.Rivalry.{Gathered, gathered-first, gathered-same, gathered-next, rivalry}
 use Rattle.lookahead.proofs.rivals.rivals.Statement.{statement}
 use Rattle.lookahead.proofs.rivals.rivals.Tie as tie
 
-abbrev Inv-loop : tie.InvT-loop
-Inv-loop sets n m starts rows₀ seen₀ done₀ rows seen done =
-    Reaching (successors n m starts sets) seen done × Gathered n m done sets rows₀ rows
+abbrev Inv₂ : tie.InvT-loop2
+Inv₂ sets n m starts rows₀ seen₀ done rest₀ rows seen rest =
+    Reaching (successors n m starts sets) seen done rest × Gathered n m starts done rest sets rows
 
-abbrev μ-loop : tie.MeasureT-loop
-μ-loop sets n m starts rows₀ seen₀ done₀ rows seen done = size n (λ t. not (has done t))
+abbrev μ₂ : tie.MeasureT-loop2
+μ₂ sets n m starts rows₀ seen₀ done rest₀ rows seen rest = rest
 
-abbrev start : tie.At-loop Inv-loop μ-loop → tie.Start Inv-loop μ-loop
+abbrev Inv₁ : tie.InvT-loop
+Inv₁ sets n m starts rows₀ seen₀ done₀ rows seen done =
+    Reaching (successors n m starts sets) seen done 0 × Gathered n m starts done 0 sets rows
+
+abbrev μ₁ : tie.MeasureT-loop
+μ₁ sets n m starts rows₀ seen₀ done₀ rows seen done = size n (λ t. not (has done t))
+
+abbrev start : tie.At-loop Inv₂ μ₂ Inv₁ μ₁ → tie.Start Inv₂ μ₂ Inv₁ μ₁
 start c = c .before .before .before .before
 
-small : (c : tie.In-loop Inv-loop μ-loop) → toDo (c .before .loop .seen) (c .before .loop .done) < start (c .before) .args .n
-small c = least-below _ (c .before .loop .inv .0) (c .loop-test .taken)
+-- from a turn of the inner loop to that of the outer
+abbrev turn : tie.In-loop2 Inv₂ μ₂ Inv₁ μ₁ → tie.In-loop Inv₂ μ₂ Inv₁ μ₁
+turn c = c .before .before
 
-pair-forks-requires : tie.Need-pair-forks-requires Inv-loop μ-loop
-pair-forks-requires c κs =
-    let l = c .before .before in
-    (l .loop .inv .1 .long ∙ l .before .pair-set .ensures .long, start l .pre .0, small (c .before))
+some : (c : tie.In-loop2 Inv₂ μ₂ Inv₁ μ₁) → 0 < c .before .loop2 .rest
+some c = omega (arith, c .loop2-test .taken)
 
-loop-again : tie.Need-loop-again Inv-loop μ-loop
-loop-again c =
+small : (c : tie.In-loop2 Inv₂ μ₂ Inv₁ μ₁) → trailingZeros 64 (c .before .loop2 .rest) < start (turn c .before) .args .n
+small c = least-below (c .before .loop2 .inv .0 .left) (some c)
+
+loop2-holds : tie.Need-loop2-holds Inv₂ μ₂ Inv₁ μ₁
+loop2-holds c = let (r, g) = c .before .loop .inv in (reaching-front _ r, gathered-same (front-taken _ r) g)
+
+loop-again : tie.Need-loop-again Inv₂ μ₂ Inv₁ μ₁
+loop-again c = let (r, g) = c .before .loop2 .inv in (rw (c .loop2-test .left) at r, rw (c .loop2-test .left) at g)
+
+loop2-again : tie.Need-loop2-again Inv₂ μ₂ Inv₁ μ₁
+loop2-again c =
     let t = c .before .before in
-    let p = start (t .before) .pre in
-    let (r, g) = t .before .loop .inv in
+    let p = start (turn t .before) .pre in
+    let (r, g) = t .before .loop2 .inv in
     let (forked, is) = c .pair-forks .ensures in
-    (reached-next (p .0) (p .1) r (t .loop-test .taken) is, gathered-next (small t) (p .0 .states) forked g)
+    (reached-next (p .0) (p .1) r (some t) is, gathered-next (r .left) (some t) forked g)
 
-returns : tie.Need-returns Inv-loop μ-loop
+returns : tie.Need-returns Inv₂ μ₂ Inv₁ μ₁
 returns c =
-    let l = c .before in
-    let p = start l .pre in
-    let (r, g) = l .loop .inv in
+    let p = start (c .before) .pre in
+    let (r, g) = c .before .loop .inv in
     let all = reached-all (p .0) (p .1) r (c .loop-test .left) in
-    (rivalry _ _ _ _ (p .0) (p .1) all (c .loop-test .left) (l .before .pair-set .ensures) g, all)
+    (rivalry _ _ _ _ (p .0) (p .1) all (c .loop-test .left) g, all)
 
 pub rivals-spec : {M : Type 1} → statement M
 rivals-spec =
     tie.close
     (tie.spec
-    Inv-loop
-    μ-loop
+    Inv₂
+    μ₂
+    Inv₁
+    μ₁
     (λ c κs. refl)
-    (λ c. let p = c .before .before .before .pre in (reached-first (p .0) (p .1), gathered-first))
-    (λ c. omega (arith, small c, start (c .before) .pre .0 .states))
-    (λ c. omega (arith, small c, start (c .before) .pre .0 .states))
-    pair-forks-requires
-    (λ c. let t = c .before .before in left-less _ (t .before .loop .inv .0) (t .loop-test .taken))
+    (λ c. let p = c .before .before .before .pre in (reached-first (p .0) (p .1), gathered-first (c .pair-set .ensures)))
+    loop2-holds
+    (λ c. let t = c .before .before in fewer-left _ (t .before .loop .inv .0) (t .loop-test .taken))
     loop-again
+    (λ c. omega (arith, small c, start (turn c .before) .pre .0 .states))
+    (λ c κs. let t = c .before in (t .before .loop2 .inv .1 .long, start (turn t .before) .pre .0, small t))
+    (λ c. some (c .before .before))
+    (λ c. strike-less _ (some (c .before .before)))
+    loop2-again
     returns)
