@@ -1,6 +1,6 @@
 -- Striking the pairs that are led on to no live pair, row by row, and waking the pairs that lead to them.
 -- Assumes nothing.
-use mathlib.Core.Bool.{true, not, _&&_, false≢true, and-true, and-false}
+use mathlib.Core.Bool.{true, not, _&&_, false≢true, and-true, and-false, or-false}
 use mathlib.Core.Path.{_≡_, refl, sym, _∙_}
 use mathlib.Core.Logic.{inl, inr}
 use mathlib.Core.List.{List}
@@ -8,7 +8,7 @@ use Prim.Native.Nat.{ℕ, _+_, _*_, _%_, _^_, _≤_, _<_}
 use native.Mathlib.Decide.{decLt}
 use native.Mathlib.Numerals.{add-one}
 use native.Mathlib.Omega.{arith}
-use lib.Bits.{bitAnd, bitOr}
+use lib.Bits.{bitAnd, bitOr, or-zero-r}
 use lib.Dec.{ltb, eqb}
 use lib.ListN.{getD, replicate}
 use borrow.Author.Count.{below-more}
@@ -92,6 +92,14 @@ module _ (S : Semiautomaton) (live look : List ℕ) where
 
       at : (x : ℕ) → has ((1 * 2 ^ s) % 2 ^ 64) x ≡ true → (t : ℕ) → has out t ≡ true → (x < s + 1) × (falls S live look x t ≡ true)
       at x b t o = let z = eqb-true s x (sym (bit x) ∙ b) in (omega arith, rw (← z) (sym (is t) ∙ o))
+
+  -- a row of which nothing is struck: nothing is put in
+  pub struck-none : {rows : List ℕ} {gone s out : ℕ} → s < S .n → S .n ≤ 64 → out ≡ row s → out ≡ 0
+      → Struck S live look rows gone s → Struck S live look rows gone (s + 1)
+  struck-none {rows} {gone} h w e z k =
+      rw (or-zero-r gone) at (struck-next {mid = rows} {new = rows} h w (sym z ∙ e)
+      (record { long = refl; is = λ s t. rw (has-empty s, or-false) })
+      (record { long = refl; is = λ s t. rw (has-empty t, and-false, or-false) }) k)
 
 -- WHAT IT WAKES
 

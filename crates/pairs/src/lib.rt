@@ -104,9 +104,11 @@ fn strike(sets: &[u64], n: usize, m: usize, live: &[u64; 64], look: &[u64; 64]) 
     for s in 0..n {
         let work = look[s] & live[s] & bitset::mask(s as u32 + 1);
         let out = strike_row(sets, n, m, live, s, work);
-        rows::pair_up(&mut struck, out, 1 << s);
-        rows::pair_up(&mut struck, 1 << s, out);
-        gone |= out;
+        if out != 0 {
+            rows::pair_up(&mut struck, out, 1 << s);
+            rows::pair_up(&mut struck, 1 << s, out);
+            gone |= out;
+        }
     }
     Round { struck, gone }
 }

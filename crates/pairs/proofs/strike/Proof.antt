@@ -1,6 +1,7 @@
 -- `strike` meets its contract.
 -- Assumes nothing.
 use Prim.Native.Nat.{_≤_, _<_, _-_}
+use mathlib.Core.Logic.{⊎-elim}
 use mathlib.Core.Path.{_≡_, _∙_, refl}
 use native.Mathlib.Omega.{arith}
 use lib.Bits.{bitAnd}
@@ -8,7 +9,7 @@ use lib.ListN.{length, getD}
 use borrow.Author.Needs.{needs}
 use Rattle.semiautomata.specs.Successors.{successors}
 use Rattle.pairs.specs.inner.Rounds.{Struck}
-use Rattle.pairs.proofs.Striking.{work-fits, struck-first, struck-next}
+use Rattle.pairs.proofs.Striking.{work-fits, struck-first, struck-next, struck-none}
 use Rattle.pairs.proofs.strike.Statement.{statement}
 use Rattle.pairs.proofs.strike.Tie as tie
 
@@ -22,9 +23,12 @@ abbrev μ-loop : tie.MeasureT-loop
 abbrev start : tie.In-loop Inv-loop μ-loop → tie.Start Inv-loop μ-loop
 start c = c .before .before .before
 
--- from the mask back to the turn
+-- from the mask back to the turn, and from where a row's states are struck
 abbrev masked : tie.After-mask Inv-loop μ-loop → tie.In-loop Inv-loop μ-loop
 masked c = c .before .before .before
+
+abbrev striking : tie.Then1 Inv-loop μ-loop → tie.In-loop Inv-loop μ-loop
+striking c = masked (c .before .before)
 
 small : (c : tie.In-loop Inv-loop μ-loop) → c .before .loop .s < 64
 small c = omega (arith, start c .pre .states)
@@ -39,14 +43,19 @@ strike-row-requires c κs =
 
 loop-again : tie.Need-loop-again Inv-loop μ-loop
 loop-again c =
-    let p = c .before .before in
-    let r = p .before .before in
+    let r = c .before in
     let k = masked (r .before) in
     let i = k .before .loop .inv in
+    let h = k .loop-test .taken in
+    let n = start k .pre .states in
     let o = rw (r .before .mask .ensures) at (r .strike-row .ensures) in
-    let a = p .pair-up .ensures in
-    let b = c .pair-up2 .ensures in
-    (omega arith, b .long ∙ a .long ∙ i .1, struck-next _ _ _ (k .loop-test .taken) (start k .pre .states) o a b (i .2))
+    ⊎-elim
+    (λ w.
+    let a = w .2 .ensures in
+    let b = w .4 .ensures in
+    rw (w .5, w .6) (omega arith, b .long ∙ a .long ∙ i .1, struck-next _ _ _ h n o a b (i .2)))
+    (λ w. rw (w .1, w .2) (omega arith, i .1, struck-none _ _ _ h n o (w .0 .left) (i .2)))
+    (c .if1 .came)
 
 pub strike-spec : {M : Type 1} → statement M
 strike-spec =
@@ -63,10 +72,10 @@ strike-spec =
     (λ c. omega (arith, small (c .before .before)))
     (λ c κs. search needs)
     strike-row-requires
-    (λ c. small (masked (c .before .before)))
-    (λ c κs. masked (c .before .before) .before .loop .inv .1)
-    (λ c. let r = c .before .before .before in small (masked (r .before)))
-    (λ c κs. let r = c .before .before .before in c .before .pair-up .ensures .long ∙ masked (r .before) .before .loop .inv .1)
+    (λ c. small (striking (c .before)))
+    (λ c κs. striking (c .before) .before .loop .inv .1)
+    (λ c. small (striking (c .before .before .before)))
+    (λ c κs. c .before .pair-up .ensures .long ∙ striking (c .before .before .before) .before .loop .inv .1)
     (λ c. omega arith)
     (λ c. omega arith)
     loop-again
