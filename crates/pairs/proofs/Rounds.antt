@@ -4,9 +4,12 @@ use mathlib.Core.Bool.{Bool, true, false, not, xor, _&&_, false≢true, and-fals
 use mathlib.Core.Path.{_≡_, refl, sym, _∙_}
 use mathlib.Core.Logic.{_⊎_, inl, inr}
 use mathlib.Core.List.{List}
-use Prim.Native.Nat.{ℕ, suc, _+_, _*_, _^_, _≤_, _<_}
+use Prim.Native.Nat.{ℕ, suc, _+_, _*_, _%_, _^_, _≤_, _<_}
 use native.Mathlib.Decide.{decLt}
+use native.Mathlib.Nat.{one-mul}
+use native.Mathlib.Numerals.{add-one}
 use native.Mathlib.Omega.{arith}
+use lib.Bits.{bitOr, or-shifted-r}
 use lib.Dec.{ltb, leb}
 use lib.ListN.{length, replicate, getD, getD-replicate}
 use lib.Pow.{pow-pos}
@@ -15,7 +18,7 @@ use Rattle.bitset.specs.Sets.{any}
 use Rattle.bitset.specs.Numbers.{has, setOf}
 use Rattle.bitset.proofs.Tests.{and-in, and-out, not-so, decided, same-test}
 use Rattle.bitset.proofs.Below.{any-in, any-out, any-not, any-none, any-cong, with-any}
-use Rattle.bitset.proofs.Bits.{has-empty, has-high, has-setOf, setOf-lt, some-member, fits}
+use Rattle.bitset.proofs.Bits.{has-empty, has-high, has-setOf, setOf-lt, some-member, fits, shl-one}
 use Rattle.semiautomata.specs.Semiautomaton.{Semiautomaton, Within}
 use Rattle.semiautomata.specs.Levels.{live, Repeats}
 use Rattle.semiautomata.specs.Sizes.{maxSets}
@@ -26,9 +29,9 @@ use Rattle.semiautomata.proofs.Lassos.{share-ever, live-ever}
 use Rattle.semiautomata.proofs.Successors.{edge-out, edge-is, fit-within}
 use Rattle.rows.specs.Rows.{pair, Without, Union, Common, Apart}
 use Rattle.rows.specs.Turned.{Turned}
-use Rattle.semiautomata.proofs.Places.{zeros-at}
+use Rattle.semiautomata.proofs.Places.{place-fits, zeros-at}
 use Rattle.pairs.specs.Sharing.{leads, Sharing, Lasting}
-use Rattle.pairs.specs.inner.Rounds.{Fits, Level, dying, falls, Struck, Paired, Waking}
+use Rattle.pairs.specs.inner.Rounds.{Fits, Level, ledOn, dying, falls, Struck, Paired, Waking}
 use Rattle.pairs.proofs.Leading.{leads-in, leads-out}
 
 -- the struck pairs are those that end at the next level; `gone` is 0 where there is none
@@ -82,10 +85,6 @@ some-pair n p u is few ne =
     let (s, hs, f) = any-out n _ (sym (is t) ∙ e) in
     (s, t, hs, ht, f)
 
--- the states that the letter a leads on
-abbrev pub able : (n m : ℕ) (sets : List ℕ) (all a : ℕ) → ℕ
-able n m sets all a = setOf n (λ s. has all s && any n (λ t. has all t && has (setAt m sets s a) t))
-
 module _ (n m : ℕ) (sets : List ℕ) (F : Fit n m sets) where
   abbrev S : Semiautomaton
   S = successors n m 0 sets
@@ -106,35 +105,47 @@ module _ (n m : ℕ) (sets : List ℕ) (F : Fit n m sets) where
 
   -- THE FIRST ROUND, letter by letter
 
+  -- of the states that a letter leads on, those below s are put in: s is one too, or not
+  module _ {a s out : ℕ} (ha : a < m) (hs : s < n) (e : out ≡ ledOn n m sets s a) where
+    pub led-with : ¬ (setAt m sets s a ≡ 0) → bitOr out ((1 * 2 ^ s) % 2 ^ 64) ≡ ledOn n m sets (s + 1) a
+    unfolding setOf
+    led-with ne =
+        let on = some-member n (setAt m sets s a) (omega (arith, ne)) (place-fits F s a hs ha) in
+        let low : out < 2 ^ s = rw e (setOf-lt s _) in
+        rw (add-one, on, shl-one 64 s (omega (arith, F .states)), ← one-mul (2 ^ s), or-shifted-r 1 s out low) (omega (arith, e))
+
+    pub led-without : setAt m sets s a ≡ 0 → out ≡ ledOn n m sets (s + 1) a
+    unfolding setOf
+    led-without z = rw (add-one, e, any-none n (has (setAt m sets s a)) (λ t _. rw z (has-empty t))) (omega arith)
+
+  led-is : (a s : ℕ) → a < m → s < n → has (ledOn n m sets n a) s ≡ any n (S .edge s a)
+  led-is a s ha hs = rw (has-setOf, lt-ltb s n hs) (any-cong n _ _ λ t _. sym (edge-is n m 0 sets s a t hs ha))
+
+  module _ {rows : List ℕ} (k : Paired (replicate 64 0) rows (ledOn n m sets n) (ledOn n m sets n) m) where
+    shares : (s t : ℕ) → pair rows s t ≡ any m (λ a. has (ledOn n m sets n a) s && has (ledOn n m sets n a) t)
+    shares s t = k .is s t ∙ rw (zeros-at 64 s, has-empty t)
+
+    pub level-one : Level S 1 rows
+    unfolding live
+    level-one = record {
+      is = λ s t hs ht. shares s t ∙ any-cong m _ _ λ a ha.
+          rw (led-is a s ha hs, led-is a t ha ht) (any-both n (S .edge s a) (S .edge t a));
+    }
+
+    pub one-fits : Fits n rows
+    one-fits s h = fits n _ λ t g. shares s t ∙ any-none m _ λ a ha. rw (has-high n (ledOn n m sets n a) t (setOf-lt n _) g, and-false)
+
   module _ {all : ℕ} (e : all ≡ setOf 64 (λ t. ltb t n)) where
     every : (t : ℕ) → t < n → has all t ≡ true
     every t h = rw (e, has-setOf, lt-ltb t n h, lt-ltb t 64 (omega (arith, F .states)))
 
-    pub all-fits : all < 2 ^ n
+    all-fits : all < 2 ^ n
     all-fits = fits n all λ t g. rw (e, has-setOf, le-ltb t n g, and-false)
 
     -- level 0 has every pair
     pub level-zero : Level S 0 (replicate 64 all)
     unfolding live
     level-zero = record { is = λ s t hs ht. rw (getD-replicate 64 s all 0 (omega (arith, F .states))) (every t ht) }
-
-    able-is : (a s : ℕ) → a < m → s < n → has (able n m sets all a) s ≡ any n (S .edge s a)
-    able-is a s ha hs = rw (has-setOf, lt-ltb s n hs, every s hs)
-        (any-cong n _ _ λ t ht. rw (every t ht) (sym (edge-is n m 0 sets s a t hs ha)))
-
-    module _ {rows : List ℕ} (k : Paired (replicate 64 0) rows (able n m sets all) (able n m sets all) m) where
-      shares : (s t : ℕ) → pair rows s t ≡ any m (λ a. has (able n m sets all a) s && has (able n m sets all a) t)
-      shares s t = k .is s t ∙ rw (zeros-at 64 s, has-empty t)
-
-      pub level-one : Level S 1 rows
-      unfolding live
-      level-one = record {
-        is = λ s t hs ht. shares s t ∙ any-cong m _ _ λ a ha.
-            rw (able-is a s ha hs, able-is a t ha ht) (any-both n (S .edge s a) (S .edge t a));
-      }
-
-      pub one-fits : Fits n rows
-      one-fits s h = fits n _ λ t g. shares s t ∙ any-none m _ λ a ha. rw (has-high n (able n m sets all a) t (setOf-lt n _) g, and-false)
 
     -- what is struck is the rest
     pub first-ends : {rows struck : List ℕ} {gone : ℕ} → Level S 1 rows → Fits n rows → Without (replicate 64 all) rows struck n

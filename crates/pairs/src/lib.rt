@@ -4,12 +4,11 @@
 ghost use mathlib.Core.Bool.{not, _&&_};
 ghost use mathlib.Core.Path.{_≡_};
 ghost use Prim.Native.Nat.{_^_, _<_};
-ghost use lib.Dec.{ltb};
 ghost use lib.ListN.{length};
 ghost use Rattle.bitset.specs.Numbers.{has, setOf};
 ghost use Rattle.semiautomata.specs.Successors.{successors, Fit};
 ghost use Rattle.pairs.specs.Sharing.{leads, Led, Settled};
-ghost use Rattle.pairs.specs.inner.Rounds.{Fits, Level, Struck, Woken, Waking};
+ghost use Rattle.pairs.specs.inner.Rounds.{Fits, Level, ledOn, Struck, Woken, Waking};
 
 // A letter that leads two states on to a pair of the rows, and that pair.
 pub struct Step {
@@ -57,15 +56,29 @@ pub fn lead(sets: &[u64], n: usize, m: usize, rows: &[u64; 64], s: usize, t: usi
     step
 }
 
-// The pairs that share a letter: some letter leads both states on. `all` has every state.
-fn share_letter(sets: &[u64], n: usize, m: usize, all: u64) -> [u64; 64]
-    requires { ⌜ Fit n m (now sets) × (all ≡ setOf 64 (λ t. ltb t n)) ⌝ }
+// The states that the letter leads on.
+fn able(sets: &[u64], n: usize, m: usize, letter: usize) -> u64
+    requires { ⌜ Fit n m (now sets) × (letter < m) ⌝ }
+    ensures { λ r. ⌜ r ≡ ledOn n m (now (sets .entry)) n letter ⌝ }
+{
+    let mut out: u64 = 0;
+    for s in 0..n {
+        if sets[s * m + letter] != 0 {
+            out |= 1 << s;
+        }
+    }
+    out
+}
+
+// The pairs that share a letter: some letter leads both states on.
+fn share_letter(sets: &[u64], n: usize, m: usize) -> [u64; 64]
+    requires { ⌜ Fit n m (now sets) ⌝ }
     ensures { λ z. ⌜ Level (successors n m 0 (now (sets .entry))) 1 z × Fits n z ⌝ }
 {
     let mut live = [0u64; 64];
     for a in 0..m {
-        let able = walks::back(sets, n, m, all, a, all);
-        rows::pair_up(&mut live, able, able);
+        let led = able(sets, n, m, a);
+        rows::pair_up(&mut live, led, led);
     }
     live
 }
@@ -169,7 +182,7 @@ pub fn settle(sets: &[u64], n: usize, m: usize, rival: &[u64; 64]) -> Levels
             high: 0,
         };
     }
-    let shared = share_letter(sets, n, m, all);
+    let shared = share_letter(sets, n, m);
     let first = rows::without(n, &live, &shared);
     let mut struck = first.rows;
     let mut gone = first.any;

@@ -171,7 +171,7 @@ settle-spec =
     (λ c κs. search needs)
     (λ c κs. c .before .before .before .pre .states)
     returns
-    (λ c κs. (entry c .pre, masked c .mask .ensures))
+    (λ c κs. entry c .pre)
     (λ c κs. entry (c .before .before .before) .pre .states)
     loop-holds
     (λ c κs. start (c .before .before .before) .pre .states)

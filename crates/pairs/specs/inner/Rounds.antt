@@ -24,6 +24,10 @@ Fits n rows = (s : ℕ) → s < n → getD rows s 0 < 2 ^ n
 pub record Level (S : Semiautomaton) (j : ℕ) (rows : List ℕ) : Type 0 where
   pub is : (s t : ℕ) → s < S .n → t < S .n → pair rows s t ≡ live S j s t
 
+-- the states below k that letter a leads on
+abbrev pub ledOn : (n m : ℕ) (sets : List ℕ) (k a : ℕ) → ℕ
+ledOn n m sets k a = setOf k (λ s. any n (has (setAt m sets s a)))
+
 -- a pair that is looked at and led on to no live pair
 abbrev pub dying : Semiautomaton → List ℕ → List ℕ → ℕ → ℕ → Bool
 dying S alive look s t = pair look s t && pair alive s t && not (leads S alive s t)
