@@ -1,6 +1,6 @@
 -- Round by round: the rows hold the pairs that are live for j letters, and a round strikes each of them that ends at the next level.
 -- Assumes nothing.
-use mathlib.Core.Bool.{Bool, true, false, not, xor, _&&_, false≢true, and-false}
+use mathlib.Core.Bool.{Bool, true, false, not, xor, _&&_, true≢false, false≢true, and-false}
 use mathlib.Core.Path.{_≡_, refl, sym, _∙_}
 use mathlib.Core.Logic.{_⊎_, inl, inr}
 use mathlib.Core.List.{List}
@@ -30,7 +30,7 @@ use Rattle.semiautomata.proofs.Successors.{edge-out, edge-is, fit-within}
 use Rattle.rows.specs.Rows.{pair, Without, Union, Common, Apart}
 use Rattle.rows.specs.Turned.{Turned}
 use Rattle.semiautomata.proofs.Places.{place-fits, zeros-at}
-use Rattle.pairs.specs.Sharing.{leads, Sharing, Lasting}
+use Rattle.pairs.specs.Sharing.{leads, Sharing, Lasting, Settled}
 use Rattle.pairs.specs.inner.Rounds.{Fits, Level, ledOn, dying, falls, Struck, Paired, Waking}
 use Rattle.pairs.proofs.Leading.{leads-in, leads-out}
 
@@ -240,7 +240,7 @@ module _ (n m : ℕ) (sets : List ℕ) (F : Fit n m sets) where
       | inr y ↦ absurd (false≢true (sym (E .none z s t hs ht) ∙ E .is s t hs ht ∙ rw (x, y)))
     ]
 
-    pub lasting : {rows : List ℕ} → Level S j rows → gone ≡ 0 → Lasting S rows
+    lasting : {rows : List ℕ} → Level S j rows → gone ≡ 0 → Lasting S rows
     lasting L z = record {
       share = λ s t hs ht e i.
           let on : live S (j + i) s t ≡ true =
@@ -259,6 +259,12 @@ module _ (n m : ℕ) (sets : List ℕ) (F : Fit n m sets) where
           let long : live S (n * n) s t ≡ true = live-in S W (share-shorter (omega arith) (live-out S j s t x)) in
           absurd (false≢true (rw (live-ever S W s t hs ht long (suc j)) at y))
     ]
+
+  -- none is struck, and two rivals live: they do for ever
+  pub stable : {rival rows struck back : List ℕ} {gone j low high : ℕ}
+      → At n m sets rival rows struck back gone j × Common n rows rival low high → gone ≡ 0
+      → Settled S rival (record { stable = true; rounds = j; live = rows; low = low; high = high })
+  stable (i, two) z = ((λ e. absurd (true≢false e)), λ _. (lasting (i .ends) (i .level) z, two))
 
   -- RIVALS AMONG THE LIVE PAIRS
 

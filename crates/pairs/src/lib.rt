@@ -186,6 +186,16 @@ pub fn settle(sets: &[u64], n: usize, m: usize, rival: &[u64; 64]) -> Levels
     let first = rows::without(n, &live, &shared);
     let mut struck = first.rows;
     let mut gone = first.any;
+    // nothing to turn the table round for
+    if gone == 0 {
+        return Levels {
+            stable: true,
+            rounds,
+            live,
+            low: two.low,
+            high: two.high,
+        };
+    }
     let mut back = [0u64; semiautomata::MAX_SETS];
     while gone != 0 {
         let left = rows::without(n, &live, &struck);

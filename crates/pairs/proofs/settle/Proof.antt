@@ -1,13 +1,13 @@
 -- `settle` meets its contract.
 -- Assumes nothing.
 use Prim.Native.Nat.{ℕ, suc, _+_, _*_, _<_, _-_}
-use mathlib.Core.Bool.{true≢false, false≢true}
+use mathlib.Core.Bool.{false≢true}
 use mathlib.Core.Logic.{⊎-elim}
 use mathlib.Core.Path.{_≡_, refl, sym}
 use native.Mathlib.Nat.{mul-le-mul}
 use native.Mathlib.Numerals.{add-one}
 use native.Mathlib.Omega.{arith}
-use lib.ListN.{length}
+use lib.ListN.{length, replicate}
 use borrow.Author.Count.{below-more}
 use borrow.Author.Needs.{needs}
 use borrow.Author.Tests.{not-true, not-false}
@@ -18,8 +18,8 @@ use Rattle.semiautomata.proofs.Places.{blank}
 use Rattle.rows.proofs.Turning.{turned-fit}
 use Rattle.pairs.specs.Sharing.{Sharing}
 use Rattle.pairs.specs.inner.Rounds.{Level}
-use Rattle.pairs.proofs.Rounds.{At, level-zero, first-ends, round-ends, level-next, covers-next, lasting, round-early}
-use Rattle.pairs.proofs.Rounds.{some-sharing, no-sharing}
+use Rattle.pairs.proofs.Rounds.{At, level-zero, first-ends, round-ends, level-next, covers-next, round-early}
+use Rattle.pairs.proofs.Rounds.{stable, some-sharing, no-sharing}
 use Rattle.pairs.proofs.settle.Statement.{statement}
 use Rattle.pairs.proofs.settle.Tie as tie
 
@@ -37,10 +37,11 @@ masked c = c .before .before .before .before
 abbrev entry : tie.Else1 Inv-loop μ-loop → tie.Start Inv-loop μ-loop
 entry c = masked c .before .before
 
+abbrev begun : tie.After-struck Inv-loop μ-loop → tie.Else1 Inv-loop μ-loop
+begun c = c .before .before .before .before .before
+
 abbrev start : tie.At-loop Inv-loop μ-loop → tie.Start Inv-loop μ-loop
-start c =
-    let back-6 = c .before .before .before .before .before .before in
-    entry back-6
+start c = entry (begun (c .before .before))
 
 abbrev turn : tie.After-without2 Inv-loop μ-loop → tie.In-loop Inv-loop μ-loop
 turn c = c .before .before .before
@@ -48,16 +49,42 @@ turn c = c .before .before .before
 abbrev left : tie.After-common2 Inv-loop μ-loop → tie.After-without2 Inv-loop μ-loop
 left c = c .before .before .before
 
-abbrev searched : tie.Else2 Inv-loop μ-loop → tie.After-common2 Inv-loop μ-loop
+abbrev searched : tie.Else3 Inv-loop μ-loop → tie.After-common2 Inv-loop μ-loop
 searched c = c .before .before
 
 abbrev woken : tie.After-strike Inv-loop μ-loop → tie.After-wake Inv-loop μ-loop
 woken c = c .before .before .before
 
-abbrev turned : tie.After-wake Inv-loop μ-loop → tie.Joined3 Inv-loop μ-loop
+abbrev turned : tie.After-wake Inv-loop μ-loop → tie.Joined4 Inv-loop μ-loop
 turned c = c .before .before .before
 
 -- WHAT HOLDS IN THE LOOP
+
+-- before the first round, in which pairs that share no letter are struck
+first : (c : tie.After-struck Inv-loop μ-loop) →
+    let b = begun c in
+    let a = entry b .args in
+    let live = replicate 64 (masked b .mask .result) in
+    let w = c .before .without .result in
+    let two = b .before .before .common .result in
+    At (a .n) (a .m) (a .sets .now) (a .rival .now) live (w .rows) (replicate 2048 0) (w .any) 0
+    × Common (a .n) live (a .rival .now) (two .low) (two .high)
+first c =
+    let b = begun c in
+    let f = entry b .pre in
+    let e = masked b .mask .ensures in
+    let (one, low) = c .before .before .before .before .share-letter .ensures in
+    let (w, u) = c .before .without .ensures in (
+      record {
+        level = level-zero _ _ _ f e;
+        ends = first-ends _ _ _ f e one low w u;
+        shared = λ i h. absurd (omega arith);
+        long = refl;
+        fresh = λ _. blank _;
+        turned = λ h. absurd (omega arith);
+      },
+      b .before .before .common .ensures .0 (not-false _ (b .if1 .left)),
+    )
 
 early : (c : tie.In-loop Inv-loop μ-loop) → c .before .loop .rounds < start (c .before) .args .n * start (c .before) .args .n
 early c = round-early _ _ _ (start (c .before) .pre) (c .before .loop .inv .0 .ends) (c .loop-test .taken)
@@ -79,13 +106,13 @@ shared c =
     below-more _ _ (i .shared) (some-sharing _ _ _ (start (c .before) .pre) (i .level) two)
 
 -- the table is turned round, in this round or before it
-round : (c : tie.Joined3 Inv-loop μ-loop) →
+round : (c : tie.Joined4 Inv-loop μ-loop) →
     let a = start (turn (left (searched (c .before))) .before) .args in
-    (length (c .if3 .back) ≡ 2048) × Turned (a .n) (a .m) (a .sets .now) (c .if3 .back)
+    (length (c .if4 .back) ≡ 2048) × Turned (a .n) (a .m) (a .sets .now) (c .if4 .back)
 round c =
     let t = turn (left (searched (c .before))) .before in
     let i = t .loop .inv .0 in
-    ⊎-elim (λ w. rw (w .3) (w .2 .ensures)) (λ w. rw (w .1) (i .long, i .turned (omega (arith, w .0 .left)))) (c .if3 .came)
+    ⊎-elim (λ w. rw (w .3) (w .2 .ensures)) (λ w. rw (w .1) (i .long, i .turned (omega (arith, w .0 .left)))) (c .if4 .came)
 
 -- THE NEEDS
 
@@ -99,29 +126,11 @@ returns c =
       λ e. absurd (false≢true e),
     )
 
-loop-holds : tie.Need-loop-holds Inv-loop μ-loop
-loop-holds c =
-    let k = c .before in
-    let l = k .before .before .before in
-    let f = entry (l .before) .pre in
-    let e = masked (l .before) .mask .ensures in
-    let (w, u) = k .without .ensures in (
-      record {
-        level = level-zero _ _ _ f e;
-        ends = first-ends _ _ _ f e (l .share-letter .ensures .0) (l .share-letter .ensures .1) w u;
-        shared = λ i h. absurd (omega arith);
-        long = refl;
-        fresh = λ _. blank _;
-        turned = λ h. absurd (omega arith);
-      },
-      l .before .before .before .common .ensures .0 (not-false _ (l .before .if1 .left)),
-    )
-
-returns-2 : tie.Need-returns-2 Inv-loop μ-loop
-returns-2 c =
+returns-3 : tie.Need-returns-3 Inv-loop μ-loop
+returns-3 c =
     let k = c .before .before in
     let t = turn (left k) in
-    let apart = k .common2 .ensures .1 (not-true _ (c .if2 .taken)) in (
+    let apart = k .common2 .ensures .1 (not-true _ (c .if3 .taken)) in (
       (λ _. record { enough = rw add-one (no-sharing _ _ _ (start (t .before) .pre) (level (left k)) apart); least = shared t }),
       λ e. absurd (false≢true e),
     )
@@ -153,13 +162,8 @@ loop-again c =
         fresh = λ e. absurd (omega arith);
         turned = λ _. is;
       },
-      s .common2 .ensures .0 (not-false _ (k .before .if2 .left)),
+      s .common2 .ensures .0 (not-false _ (k .before .if3 .left)),
     )
-
-returns-3 : tie.Need-returns-3 Inv-loop μ-loop
-returns-3 c =
-    let (i, two) = c .before .loop .inv in
-    ((λ e. absurd (true≢false e)), λ _. (lasting _ _ _ (start (c .before) .pre) (i .ends) (i .level) (c .loop-test .left), two))
 
 pub settle-spec : {M : Type 1} → statement M
 settle-spec =
@@ -173,17 +177,18 @@ settle-spec =
     returns
     (λ c κs. entry c .pre)
     (λ c κs. entry (c .before .before .before) .pre .states)
-    loop-holds
+    (λ c. stable _ _ _ (entry (begun (c .before)) .pre) (first (c .before)) (c .if2 .taken))
+    (λ c. first (c .before))
     (λ c κs. start (c .before .before .before) .pre .states)
     (λ c. let t = turn (c .before) in let h = start (t .before) .pre .states in omega (arith, early t, mul-le-mul h h))
     (λ c κs. start (turn (c .before .before) .before) .pre .states)
-    returns-2
+    returns-3
     (λ c κs.
     let t = turn (left (searched (c .before .before))) .before in
-    (start t .pre, t .loop .inv .0 .fresh (omega (arith, c .before .if3 .taken))))
+    (start t .pre, t .loop .inv .0 .fresh (omega (arith, c .before .if4 .taken))))
     (λ c. sym (round (c .before) .0))
     wake-requires
     (λ c κs. start (turn (left (searched (turned (c .before .before) .before))) .before) .pre)
     (λ c. omega (arith, early (turn (left (searched (turned (woken (c .before)) .before))))))
     loop-again
-    returns-3)
+    (λ c. stable _ _ _ (start (c .before) .pre) (c .before .loop .inv) (c .loop-test .left)))
