@@ -47,6 +47,7 @@ pub record Covers (S : Semiautomaton) (rows look : List ℕ) : Type 0 where
 
 -- what holds before each round: the table is turned round once the first is over
 pub record At (n m : ℕ) (sets rival rows struck back : List ℕ) (gone j : ℕ) : Type 0 where
+  pub wide : length rows ≡ 64
   pub level : Level (successors n m 0 sets) j rows
   pub ends : Ends (successors n m 0 sets) j struck gone
   pub shared : (i : ℕ) → i < j → Sharing (successors n m 0 sets) rival i

@@ -4,7 +4,7 @@
 ghost use mathlib.Core.Bool.{not, _&&_};
 ghost use mathlib.Core.Path.{_≡_};
 ghost use Prim.Native.Nat.{_^_, _<_};
-ghost use lib.ListN.{length};
+ghost use lib.ListN.{length, replicate};
 ghost use Rattle.bitset.specs.Numbers.{has, setOf};
 ghost use Rattle.semiautomata.specs.Successors.{successors, Fit};
 ghost use Rattle.pairs.specs.Sharing.{leads, Led, Settled};
@@ -101,29 +101,31 @@ fn strike_row(sets: &[u64], n: usize, m: usize, live: &[u64; 64], s: usize, work
     out
 }
 
-// The pairs that a round strikes, and the lower states of them.
-pub struct Round {
-    pub struck: [u64; 64],
-    pub gone: u64,
-}
-
+// Of the live pairs that are looked at, those that share no longer word are put into rows without pairs; answers the lower states of them.
 // A pair is tested with the higher state first, and struck in both orders.
-fn strike(sets: &[u64], n: usize, m: usize, live: &[u64; 64], look: &[u64; 64]) -> Round
-    requires { ⌜ Fit n m (now sets) ⌝ }
-    ensures { λ r. ⌜ Struck (successors n m 0 (now (sets .entry))) (now (live .entry)) (now (look .entry)) (r .struck) (r .gone) n ⌝ }
+fn strike(
+    sets: &[u64],
+    n: usize,
+    m: usize,
+    live: &[u64; 64],
+    look: &[u64; 64],
+    struck: &mut [u64; 64],
+) -> u64
+    requires { ⌜ Fit n m (now sets) × (now struck ≡ replicate 64 0) ⌝ }
+    ensures { λ r. ⌜ (length (now (struck .exit)) ≡ 64)
+        × Struck (successors n m 0 (now (sets .entry))) (now (live .entry)) (now (look .entry)) (now (struck .exit)) r n ⌝ }
 {
-    let mut struck = [0u64; 64];
     let mut gone: u64 = 0;
     for s in 0..n {
         let work = look[s] & live[s] & bitset::mask(s as u32 + 1);
         let out = strike_row(sets, n, m, live, s, work);
         if out != 0 {
-            rows::pair_up(&mut struck, out, 1 << s);
-            rows::pair_up(&mut struck, 1 << s, out);
+            rows::pair_up(struck, out, 1 << s);
+            rows::pair_up(struck, 1 << s, out);
             gone |= out;
         }
     }
-    Round { struck, gone }
+    gone
 }
 
 // Every pair that some letter leads to s and a state of the set is looked at.
@@ -141,18 +143,16 @@ fn wake_row(back: &[u64], n: usize, m: usize, s: usize, set: u64, look: &mut [u6
 }
 
 // Every pair that some letter leads to a struck one is looked at; `back` is the table turned round.
-fn wake(back: &[u64], n: usize, m: usize, struck: &[u64; 64]) -> [u64; 64]
-    requires { ⌜ Fit n m (now back) × Fits n (now struck) ⌝ }
-    ensures { λ z. ⌜ Waking m (now (back .entry)) (now (struck .entry)) z n ⌝ }
+fn wake(back: &[u64], n: usize, m: usize, struck: &[u64; 64], look: &mut [u64; 64])
+    requires { ⌜ Fit n m (now back) × Fits n (now struck) × (length (now look) ≡ 64) ⌝ }
+    ensures { λ r. ⌜ (length (now (look .exit)) ≡ 64) × Waking m (now (back .entry)) (now (struck .entry)) (now (look .exit)) n ⌝ }
 {
-    let mut look = [0u64; 64];
     for s in 0..n {
         let set = struck[s];
         if set != 0 {
-            wake_row(back, n, m, s, set, &mut look);
+            wake_row(back, n, m, s, set, look);
         }
     }
-    look
 }
 
 // What the rounds come to: after `rounds` of them no two rivals share a word of as many letters, or no round strikes one more pair, and
@@ -183,9 +183,8 @@ pub fn settle(sets: &[u64], n: usize, m: usize, rival: &[u64; 64]) -> Levels
         };
     }
     let shared = share_letter(sets, n, m);
-    let first = rows::without(n, &live, &shared);
-    let mut struck = first.rows;
-    let mut gone = first.any;
+    let mut struck = [all; 64];
+    let mut gone = rows::without(&mut struck, n, &shared);
     // nothing to turn the table round for
     if gone == 0 {
         return Levels {
@@ -198,8 +197,7 @@ pub fn settle(sets: &[u64], n: usize, m: usize, rival: &[u64; 64]) -> Levels
     }
     let mut back = [0u64; semiautomata::MAX_SETS];
     while gone != 0 {
-        let left = rows::without(n, &live, &struck);
-        live = left.rows;
+        rows::without(&mut live, n, &struck);
         rounds += 1;
         two = rows::common(n, &live, rival);
         if !two.found {
@@ -215,10 +213,10 @@ pub fn settle(sets: &[u64], n: usize, m: usize, rival: &[u64; 64]) -> Levels
         if rounds == 1 {
             rows::turn(&mut back, sets, n, m);
         }
-        let look = wake(&back, n, m, &struck);
-        let round = strike(sets, n, m, &live, &look);
-        struck = round.struck;
-        gone = round.gone;
+        let mut look = [0u64; 64];
+        wake(&back, n, m, &struck, &mut look);
+        struck = [0u64; 64];
+        gone = strike(sets, n, m, &live, &look, &mut struck);
     }
     Levels {
         stable: true,

@@ -1,6 +1,6 @@
 -- Rows of pairs of states: bit t of row s is the pair s and t. Pairs are put in, taken out, and two states are searched for.
 -- Assumes nothing.
-use Prim.Native.Nat.{ℕ, _<_}
+use Prim.Native.Nat.{ℕ, _≤_, _<_}
 use mathlib.Core.Bool.{Bool, true, false, xor, _&&_, _||_}
 use mathlib.Core.Path.{_≡_}
 use mathlib.Core.List.{List}
@@ -19,8 +19,11 @@ pub record Put (firsts seconds : ℕ) (old new : List ℕ) : Type 0 where
   pub is : (s t : ℕ) → pair new s t ≡ (pair old s t || has firsts s && has seconds t)
 
 -- In the rows below k, the pairs that one of the two has and not the other: the rows without the struck ones, where these are among them.
+-- The other rows are kept.
 pub record Without (old struck new : List ℕ) (k : ℕ) : Type 0 where
+  pub long : length new ≡ length old
   pub is : (s t : ℕ) → s < k → pair new s t ≡ xor (pair old s t) (pair struck s t)
+  pub kept : (s : ℕ) → k ≤ s → getD new s 0 ≡ getD old s 0
 
 -- The set has each state that some row below k has.
 pub record Union (rows : List ℕ) (set k : ℕ) : Type 0 where

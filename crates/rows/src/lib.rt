@@ -45,25 +45,19 @@ pub fn turn(back: &mut [u64; semiautomata::MAX_SETS], sets: &[u64], n: usize, m:
     }
 }
 
-// Rows, and the union of them.
-pub struct Left {
-    pub rows: [u64; 64],
-    pub any: u64,
-}
-
-// The pairs of the rows but for the struck ones, where these are among them; in any case those that one of the two has and not the other.
-pub fn without(n: usize, rows: &[u64; 64], struck: &[u64; 64]) -> Left
-    requires { ⌜ n ≤ 64 ⌝ }
-    ensures { λ r. ⌜ Without (now (rows .entry)) (now (struck .entry)) (r .rows) n × Union (r .rows) (r .any) n ⌝ }
+// The struck pairs are taken out of the rows, where they are among them; in any case those are left that one of the two has and not the
+// other. Answers the union of the rows that are left.
+pub fn without(rows: &mut [u64; 64], n: usize, struck: &[u64; 64]) -> u64
+    requires { ⌜ (n ≤ 64) × (length (now rows) ≡ 64) ⌝ }
+    ensures { λ r. ⌜ Without (now (rows .entry)) (now (struck .entry)) (now (rows .exit)) n × Union (now (rows .exit)) r n ⌝ }
 {
-    let mut left = [0u64; 64];
     let mut any: u64 = 0;
     for s in 0..n {
         let row = rows[s] ^ struck[s];
-        left[s] = row;
+        rows[s] = row;
         any |= row;
     }
-    Left { rows: left, any }
+    any
 }
 
 // Two states, the lower first.

@@ -3,7 +3,7 @@
 use Prim.Native.Nat.{ℕ, suc, _+_, _*_, _<_, _-_}
 use mathlib.Core.Bool.{false≢true}
 use mathlib.Core.Logic.{⊎-elim}
-use mathlib.Core.Path.{_≡_, refl, sym}
+use mathlib.Core.Path.{_≡_, refl, sym, _∙_}
 use native.Mathlib.Nat.{mul-le-mul}
 use native.Mathlib.Numerals.{add-one}
 use native.Mathlib.Omega.{arith}
@@ -37,8 +37,8 @@ masked c = c .before .before .before .before
 abbrev entry : tie.Else1 Inv-loop μ-loop → tie.Start Inv-loop μ-loop
 entry c = masked c .before .before
 
-abbrev begun : tie.After-struck Inv-loop μ-loop → tie.Else1 Inv-loop μ-loop
-begun c = c .before .before .before .before .before
+abbrev begun : tie.After-without Inv-loop μ-loop → tie.Else1 Inv-loop μ-loop
+begun c = c .before .before .before .before
 
 abbrev start : tie.At-loop Inv-loop μ-loop → tie.Start Inv-loop μ-loop
 start c = entry (begun (c .before .before))
@@ -47,35 +47,35 @@ abbrev turn : tie.After-without2 Inv-loop μ-loop → tie.In-loop Inv-loop μ-lo
 turn c = c .before .before .before
 
 abbrev left : tie.After-common2 Inv-loop μ-loop → tie.After-without2 Inv-loop μ-loop
-left c = c .before .before .before
+left c = c .before .before
 
 abbrev searched : tie.Else3 Inv-loop μ-loop → tie.After-common2 Inv-loop μ-loop
 searched c = c .before .before
 
 abbrev woken : tie.After-strike Inv-loop μ-loop → tie.After-wake Inv-loop μ-loop
-woken c = c .before .before .before
+woken c = c .before .before .before .before
 
 abbrev turned : tie.After-wake Inv-loop μ-loop → tie.Joined4 Inv-loop μ-loop
-turned c = c .before .before .before
+turned c = c .before .before .before .before
 
 -- WHAT HOLDS IN THE LOOP
 
 -- before the first round, in which pairs that share no letter are struck
-first : (c : tie.After-struck Inv-loop μ-loop) →
+first : (c : tie.After-without Inv-loop μ-loop) →
     let b = begun c in
     let a = entry b .args in
     let live = replicate 64 (masked b .mask .result) in
-    let w = c .before .without .result in
     let two = b .before .before .common .result in
-    At (a .n) (a .m) (a .sets .now) (a .rival .now) live (w .rows) (replicate 2048 0) (w .any) 0
+    At (a .n) (a .m) (a .sets .now) (a .rival .now) live (c .without .last .0) (replicate 2048 0) (c .without .result) 0
     × Common (a .n) live (a .rival .now) (two .low) (two .high)
 first c =
     let b = begun c in
     let f = entry b .pre in
     let e = masked b .mask .ensures in
-    let (one, low) = c .before .before .before .before .share-letter .ensures in
-    let (w, u) = c .before .without .ensures in (
+    let (one, low) = c .before .before .before .share-letter .ensures in
+    let (w, u) = c .without .ensures in (
       record {
+        wide = refl;
         level = level-zero _ _ _ f e;
         ends = first-ends _ _ _ f e one low w u;
         shared = λ i h. absurd (omega arith);
@@ -92,7 +92,7 @@ early c = round-early _ _ _ (start (c .before) .pre) (c .before .loop .inv .0 .e
 -- the next level
 level : (c : tie.After-without2 Inv-loop μ-loop) →
     let a = start (turn c .before) .args in
-    Level (successors (a .n) (a .m) 0 (a .sets .now)) (suc (turn c .before .loop .rounds)) (c .without2 .result .rows)
+    Level (successors (a .n) (a .m) 0 (a .sets .now)) (suc (turn c .before .loop .rounds)) (c .without2 .last .0)
 level c =
     let i = turn c .before .loop .inv .0 in
     level-next _ _ _ (start (turn c .before) .pre) (i .ends) (i .level) (c .without2 .ensures .0)
@@ -137,15 +137,15 @@ returns-3 c =
 
 wake-requires : tie.Need-wake-requires Inv-loop μ-loop
 wake-requires c κs =
-    let k = c .before .before in
+    let k = c .before .before .before in
     let t = turn (left (searched (k .before))) .before in
     let f = start t .pre in
     let (long, is) = round k in
-    (turned-fit f long is, t .loop .inv .0 .ends .fits)
+    (turned-fit f long is, t .loop .inv .0 .ends .fits, refl)
 
 loop-again : tie.Need-loop-again Inv-loop μ-loop
 loop-again c =
-    let w = woken (c .before) in
+    let w = woken c in
     let k = turned w in
     let s = searched (k .before) in
     let t = turn (left s) in
@@ -153,10 +153,11 @@ loop-again c =
     let l = level (left s) in
     let (long, is) = round k in
     let i = t .before .loop .inv .0 in
-    let covers = covers-next _ _ _ f (i .ends) (i .level) l is (w .wake .ensures) in (
+    let covers = covers-next _ _ _ f (i .ends) (i .level) l is (w .wake .ensures .1) in (
       record {
+        wide = left s .without2 .ensures .0 .long ∙ i .wide;
         level = rw add-one l;
-        ends = rw add-one (round-ends _ _ _ f l covers (c .before .strike .ensures));
+        ends = rw add-one (round-ends _ _ _ f l covers (c .strike .ensures .1));
         shared = shared t;
         long = long;
         fresh = λ e. absurd (omega arith);
@@ -176,19 +177,19 @@ settle-spec =
     (λ c κs. c .before .before .before .pre .states)
     returns
     (λ c κs. entry c .pre)
-    (λ c κs. entry (c .before .before .before) .pre .states)
+    (λ c κs. (entry (c .before .before .before) .pre .states, refl))
     (λ c. stable _ _ _ (entry (begun (c .before)) .pre) (first (c .before)) (c .if2 .taken))
     (λ c. first (c .before))
-    (λ c κs. start (c .before .before .before) .pre .states)
-    (λ c. let t = turn (c .before) in let h = start (t .before) .pre .states in omega (arith, early t, mul-le-mul h h))
-    (λ c κs. start (turn (c .before .before) .before) .pre .states)
+    (λ c κs. let l = c .before .before .before in (start l .pre .states, l .loop .inv .0 .wide))
+    (λ c. let t = turn c in let h = start (t .before) .pre .states in omega (arith, early t, mul-le-mul h h))
+    (λ c κs. start (turn (c .before) .before) .pre .states)
     returns-3
     (λ c κs.
     let t = turn (left (searched (c .before .before))) .before in
     (start t .pre, t .loop .inv .0 .fresh (omega (arith, c .before .if4 .taken))))
     (λ c. sym (round (c .before) .0))
     wake-requires
-    (λ c κs. start (turn (left (searched (turned (c .before .before) .before))) .before) .pre)
-    (λ c. omega (arith, early (turn (left (searched (turned (woken (c .before)) .before))))))
+    (λ c κs. (start (turn (left (searched (turned (c .before .before .before) .before))) .before) .pre, refl))
+    (λ c. omega (arith, early (turn (left (searched (turned (woken c) .before))))))
     loop-again
     (λ c. stable _ _ _ (start (c .before) .pre) (c .before .loop .inv) (c .loop-test .left)))

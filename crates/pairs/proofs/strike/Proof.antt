@@ -31,7 +31,7 @@ abbrev striking : tie.Then1 Inv-loop μ-loop → tie.In-loop Inv-loop μ-loop
 striking c = masked (c .before .before)
 
 small : (c : tie.In-loop Inv-loop μ-loop) → c .before .loop .s < 64
-small c = omega (arith, start c .pre .states)
+small c = omega (arith, start c .pre .0 .states)
 
 strike-row-requires : tie.Need-strike-row-requires Inv-loop μ-loop
 strike-row-requires c κs =
@@ -39,7 +39,7 @@ strike-row-requires c κs =
     let h = k .loop-test .taken in
     let s = k .before .loop .s in
     let a = start k .args in
-    (start k .pre, h, rw (c .mask .ensures) (work-fits _ s (bitAnd (getD (a .look .now) s 0) (getD (a .live .now) s 0)) h))
+    (start k .pre .0, h, rw (c .mask .ensures) (work-fits _ s (bitAnd (getD (a .look .now) s 0) (getD (a .live .now) s 0)) h))
 
 loop-again : tie.Need-loop-again Inv-loop μ-loop
 loop-again c =
@@ -47,7 +47,7 @@ loop-again c =
     let k = masked (r .before) in
     let i = k .before .loop .inv in
     let h = k .loop-test .taken in
-    let n = start k .pre .states in
+    let n = start k .pre .0 .states in
     let o = rw (r .before .mask .ensures) at (r .strike-row .ensures) in
     ⊎-elim
     (λ w.
@@ -63,7 +63,7 @@ strike-spec =
     (tie.spec
     Inv-loop
     μ-loop
-    (λ c. (omega arith, refl, struck-first _ _ _))
+    (λ c. let e = c .before .pre .1 in rw e (omega arith, refl, struck-first _ _ _))
     (λ c. omega (arith, small c))
     (λ c. small c)
     (λ c. omega (arith, small (c .before)))
@@ -79,4 +79,7 @@ strike-spec =
     (λ c. omega arith)
     (λ c. omega arith)
     loop-again
-    (λ c. let e : c .before .loop .s ≡ c .before .before .before .args .n = omega arith in rw e at (c .before .loop .inv .2)))
+    (λ c.
+    let (_, long, k) = c .before .loop .inv in
+    let e : c .before .loop .s ≡ c .before .before .before .args .n = omega arith in
+    (long, rw e at k)))

@@ -38,7 +38,7 @@ wake-spec =
     (tie.spec
     Inv-loop
     μ-loop
-    (λ c. (omega arith, refl, waking-first))
+    (λ c. (omega arith, c .before .pre .2, waking-first))
     (λ c. omega (arith, small c))
     (λ c. small c)
     (λ c κs.
@@ -48,4 +48,7 @@ wake-spec =
     (λ c. omega arith)
     (λ c. omega arith)
     loop-again
-    (λ c. let e : c .before .loop .s ≡ c .before .before .before .args .n = omega arith in rw e at (c .before .loop .inv .2)))
+    (λ c.
+    let (_, long, w) = c .before .loop .inv in
+    let e : c .before .loop .s ≡ c .before .before .before .args .n = omega arith in
+    (long, rw e at w)))

@@ -1,22 +1,25 @@
 -- `without` meets its contract.
 -- Assumes nothing.
 use Prim.Native.Nat.{_≤_, _<_, _-_}
-use mathlib.Core.Path.{_≡_, refl}
+use mathlib.Core.Path.{_≡_, _∙_}
 use native.Mathlib.Omega.{arith}
-use lib.ListN.{length, length-set}
+use lib.ListN.{length}
 use Rattle.rows.specs.Rows.{Without, Union}
 use Rattle.rows.proofs.Removing.{without-first, without-next, union-first, union-next}
 use Rattle.rows.proofs.without.Statement.{statement}
 use Rattle.rows.proofs.without.Tie as tie
 
 abbrev Inv-loop : tie.InvT-loop
-Inv-loop n rows struck left₀ any₀ s₀ left any s = (s ≤ n) × (length left ≡ 64) × Without rows struck left s × Union left any s
+Inv-loop rows₀ n struck any₀ s₀ rows any s = (s ≤ n) × Without rows₀ struck rows s × Union rows any s
 
 abbrev μ-loop : tie.MeasureT-loop
-μ-loop n rows struck left₀ any₀ s₀ left any s = n - s
+μ-loop rows₀ n struck any₀ s₀ rows any s = n - s
 
 small : (c : tie.In-loop Inv-loop μ-loop) → c .before .loop .s < 64
-small c = omega (arith, c .before .before .pre)
+small c = omega (arith, c .before .before .pre .0)
+
+room : (c : tie.In-loop Inv-loop μ-loop) → c .before .loop .s < length (c .before .loop .rows)
+room c = rw (c .before .loop .inv .1 .long ∙ c .before .before .pre .1) (small c)
 
 pub without-spec : {M : Type 1} → statement M
 without-spec =
@@ -24,7 +27,7 @@ without-spec =
     (tie.spec
     Inv-loop
     μ-loop
-    (λ c. (omega arith, refl, without-first, union-first))
+    (λ c. (omega arith, without-first, union-first))
     (λ c. omega (arith, small c))
     (λ c. small c)
     (λ c. omega (arith, small (c .before)))
@@ -34,11 +37,10 @@ without-spec =
     (λ c. omega arith)
     (λ c. omega arith)
     (λ c.
-    let l = c .before .before .before .loop in
-    let i = l .inv in
-    let room : l .s < length (l .left) = rw (i .1) (small (c .before .before)) in
-    (omega arith, simp length-set (i .1), without-next room (i .2), union-next room _ (i .3)))
+    let k = c .before .before in
+    let (_, w, u) = k .before .loop .inv in
+    (omega arith, without-next (room k) w, union-next (room k) _ u))
     (λ c.
-    let i = c .before .loop .inv in
+    let (_, w, u) = c .before .loop .inv in
     let e : c .before .loop .s ≡ c .before .before .args .n = omega arith in
-    (rw e at (i .2), rw e at (i .3))))
+    (rw e at w, rw e at u)))
