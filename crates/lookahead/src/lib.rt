@@ -30,8 +30,8 @@ pub fn look_ahead(sets: &[u64], n: usize, m: usize, starts: u64, letters: &mut [
     requires { ⌜ Fit n m (now sets) × (starts < 2 ^ n) × (n * n ≤ length (now letters)) ⌝ }
     ensures { λ r. ⌜ Answers (successors n m starts (now (sets .entry))) r (now (letters .entry)) (now (letters .exit)) ⌝ }
 {
-    let paired = rivals::rivals(sets, n, m, starts);
-    let rival = paired.rows;
+    let mut rival = [0u64; 64];
+    let reached = rivals::rivals(&mut rival, sets, n, m, starts);
     let found = pairs::settle(sets, n, m, &rival);
     if !found.stable {
         return Found::Lookahead(found.rounds);
@@ -42,7 +42,7 @@ pub fn look_ahead(sets: &[u64], n: usize, m: usize, starts: u64, letters: &mut [
         n,
         m,
         starts,
-        paired.reached,
+        reached,
         &live,
         found.low,
         found.high,

@@ -3,7 +3,7 @@
 ghost use mathlib.Core.Path.{_≡_};
 ghost use Prim.Native.Nat.{_-_, _^_, _<_};
 ghost use lib.Bits.{bitAnd};
-ghost use lib.ListN.{length};
+ghost use lib.ListN.{length, replicate};
 ghost use Rattle.bitset.specs.Numbers.{setOf};
 ghost use Rattle.semiautomata.specs.Access.{accessible};
 ghost use Rattle.semiautomata.specs.Successors.{successors, Fit};
@@ -52,21 +52,14 @@ fn pair_forks(rows: &mut [u64; 64], sets: &[u64], n: usize, m: usize, q: usize) 
     out
 }
 
-// The pairs of rivals, and the states that some walk reaches.
-pub struct Paired {
-    pub rows: [u64; 64],
-    pub reached: u64,
-}
-
-// The pairs of different states that some critical set that counts has both of. A state is taken as in `walks::reachable`, and its fork
-// sets are paired when they are joined.
-pub fn rivals(sets: &[u64], n: usize, m: usize, starts: u64) -> Paired
-    requires { ⌜ Fit n m (now sets) × (starts < 2 ^ n) ⌝ }
-    ensures { λ r. ⌜ Rivalry (successors n m starts (now (sets .entry))) (r .rows)
-        × (r .reached ≡ setOf n (accessible (successors n m starts (now (sets .entry))))) ⌝ }
+// The pairs of different states that some critical set that counts has both of, into rows without pairs; answers the states that some
+// walk reaches. A state is taken as in `walks::reachable`, and its fork sets are paired when they are joined.
+pub fn rivals(rows: &mut [u64; 64], sets: &[u64], n: usize, m: usize, starts: u64) -> u64
+    requires { ⌜ Fit n m (now sets) × (starts < 2 ^ n) × (now rows ≡ replicate 64 0) ⌝ }
+    ensures { λ r. ⌜ Rivalry (successors n m starts (now (sets .entry))) (now (rows .exit))
+        × (r ≡ setOf n (accessible (successors n m starts (now (sets .entry))))) ⌝ }
 {
-    let mut rows = [0u64; 64];
-    pair_set(&mut rows, starts);
+    pair_set(rows, starts);
     let mut seen = starts;
     let mut done: u64 = 0;
     while seen != done {
@@ -74,12 +67,9 @@ pub fn rivals(sets: &[u64], n: usize, m: usize, starts: u64) -> Paired
         done = seen;
         while rest != 0 {
             let q = u64::trailing_zeros(rest) as usize;
-            seen |= pair_forks(&mut rows, sets, n, m, q);
+            seen |= pair_forks(rows, sets, n, m, q);
             rest &= rest - 1;
         }
     }
-    Paired {
-        rows,
-        reached: seen,
-    }
+    seen
 }

@@ -9,10 +9,10 @@ use Rattle.lookahead.proofs.look_ahead.Tie as tie
 
 -- from the rounds' end back to the rows of rivals, and from these to the start
 abbrev paired : tie.After-settle → tie.After-rivals
-paired c = c .before .before .before
+paired c = c .before .before
 
 abbrev start : tie.After-rivals → tie.Start
-start c = c .before .before .before
+start c = c .before .before .before .before
 
 returns : tie.Need-returns
 returns c =
@@ -35,8 +35,8 @@ pub look-ahead-spec : {M : Type 1} → statement M
 look-ahead-spec =
     tie.close
     (tie.spec
-    (λ c κs. let p = c .before .before .pre in (p .0, p .1))
-    (λ c κs. start (c .before .before) .pre .0)
+    (λ c κs. let p = c .before .before .before .pre in (p .0, p .1, refl))
+    (λ c κs. start (c .before) .pre .0)
     returns
     evidence-requires
     (λ c. search needs)

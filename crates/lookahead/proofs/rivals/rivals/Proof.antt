@@ -16,18 +16,18 @@ use Rattle.lookahead.proofs.rivals.rivals.Statement.{statement}
 use Rattle.lookahead.proofs.rivals.rivals.Tie as tie
 
 abbrev Inv₂ : tie.InvT-loop2
-Inv₂ sets n m starts rows₀ seen₀ done rest₀ rows seen rest =
+Inv₂ rows₀ sets n m starts seen₀ done rest₀ rows seen rest =
     Reaching (successors n m starts sets) seen done rest × Gathered n m starts done rest sets rows
 
 abbrev μ₂ : tie.MeasureT-loop2
-μ₂ sets n m starts rows₀ seen₀ done rest₀ rows seen rest = rest
+μ₂ rows₀ sets n m starts seen₀ done rest₀ rows seen rest = rest
 
 abbrev Inv₁ : tie.InvT-loop
-Inv₁ sets n m starts rows₀ seen₀ done₀ rows seen done =
+Inv₁ rows₀ sets n m starts seen₀ done₀ rows seen done =
     Reaching (successors n m starts sets) seen done 0 × Gathered n m starts done 0 sets rows
 
 abbrev μ₁ : tie.MeasureT-loop
-μ₁ sets n m starts rows₀ seen₀ done₀ rows seen done = size n (λ t. not (has done t))
+μ₁ rows₀ sets n m starts seen₀ done₀ rows seen done = size n (λ t. not (has done t))
 
 abbrev start : tie.At-loop Inv₂ μ₂ Inv₁ μ₁ → tie.Start Inv₂ μ₂ Inv₁ μ₁
 start c = c .before .before .before .before
@@ -71,8 +71,8 @@ rivals-spec =
     μ₂
     Inv₁
     μ₁
-    (λ c κs. refl)
-    (λ c. let p = c .before .before .before .pre in (reached-first (p .0) (p .1), gathered-first (c .pair-set .ensures)))
+    (λ c κs. rw (c .before .before .pre .2) refl)
+    (λ c. let p = c .before .before .before .pre in (reached-first (p .0) (p .1), gathered-first (rw (p .2) at (c .pair-set .ensures))))
     loop2-holds
     (λ c. let t = c .before .before in fewer-left _ (t .before .loop .inv .0) (t .loop-test .taken))
     loop-again
