@@ -1,4 +1,4 @@
-/* Gawherino for C: every call on plans, tables and records, over plain numbers and lent slices. Version 2.0.0.
+/* Gawherino for C: every call on plans, tables and records, over plain numbers and lent slices. Version 2.0.1.
  *
  * USE. The plan's bytes are in plan; the logger gives one code for each leg. No call allocates, so room is lent:
  *
@@ -45,7 +45,7 @@ extern "C" {
  * number, a further call the second. */
 #define GAWHERINO_VERSION_MAJOR 2
 #define GAWHERINO_VERSION_MINOR 0
-#define GAWHERINO_VERSION_PATCH 0
+#define GAWHERINO_VERSION_PATCH 1
 
 /* ANSWERS */
 
@@ -133,9 +133,9 @@ static inline uint32_t gawherino_refusal(uint32_t answer)
 /* Bytes of stack that a call took at most where conformance/stack.sh measured it, rounded up; the greatest of them. Where memcpy, memmove or
  * memset is bound at its first call, the dynamic linker's stack comes on top. */
 #define GAWHERINO_STACK_READ 16640u
-#define GAWHERINO_STACK_PREPARE 36864u
-#define GAWHERINO_STACK_LOOK_AHEAD 36864u
-#define GAWHERINO_STACK_COUNT 40960u
+#define GAWHERINO_STACK_PREPARE 36352u
+#define GAWHERINO_STACK_LOOK_AHEAD 36352u
+#define GAWHERINO_STACK_COUNT 40448u
 #define GAWHERINO_STACK_CHECK 16896u
 #define GAWHERINO_STACK_WRITE 16640u
 #define GAWHERINO_STACK_WALK 256u
@@ -144,7 +144,7 @@ static inline uint32_t gawherino_refusal(uint32_t answer)
 #define GAWHERINO_STACK_FEED 256u
 #define GAWHERINO_STACK_FINISH 16384u
 #define GAWHERINO_STACK_GROUP 256u
-#define GAWHERINO_MAX_STACK 40960u
+#define GAWHERINO_MAX_STACK 40448u
 
 /* FORMS
  *
