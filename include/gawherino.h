@@ -28,8 +28,8 @@
  * with the length 0 a pointer may be anything. No two slices that are lent to one call may overlap if one of them is written.
  *
  * STATE. No call keeps or shares anything beyond what it is lent, so any thread may call at any time, as long as no two calls at once are
- * lent slices that share an element which one of them writes. Nothing is allocated. Of the C library memcpy, memmove and memset are called, and nothing
- * else. How much stack each call takes is named below; with too little of it a call faults.
+ * lent slices that share an element which one of them writes. Nothing is allocated. Of the C library memcpy, memmove and memset are
+ * called, and nothing else. How much stack each call takes is named below; with too little of it a call faults.
  */
 #ifndef GAWHERINO_H
 #define GAWHERINO_H
@@ -130,8 +130,8 @@ static inline uint32_t gawherino_refusal(uint32_t answer)
 #define GAWHERINO_VERDICT_NONSELECTED 1 /* those for which it is a maximal nonselector */
 #define GAWHERINO_VERDICT 2
 
-/* Bytes of stack that a call took at most where conformance/stack.sh measured it, rounded up; the greatest of them. Where memcpy, memmove or
- * memset is bound at its first call, the dynamic linker's stack comes on top. */
+/* Bytes of stack that a call took at most where conformance/stack.sh measured it, rounded up; the greatest of them. Where memcpy, memmove
+ * or memset is bound at its first call, the dynamic linker's stack comes on top. */
 #define GAWHERINO_STACK_READ 16640u
 #define GAWHERINO_STACK_PREPARE 36352u
 #define GAWHERINO_STACK_LOOK_AHEAD 36352u

@@ -171,6 +171,7 @@ size-without (suc n) p x h e = elim (ℕ-discrete x n) [
   | no q ↦ rw (ne-eqb x n q, and-true) (omega (arith, size-without n p x (omega arith) e))
 ]
 
+-- where q has all that p has
 size-mono : (n : ℕ) (p q : ℕ → Bool) → ((x : ℕ) → p x ≡ true → q x ≡ true) → size n p ≤ size n q
 unfolding size
 size-mono zero p q h = omega arith

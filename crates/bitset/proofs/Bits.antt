@@ -13,7 +13,7 @@ use lib.Pow.{pow-pos, pow-mono, pow-lt, ones-lt, shr-shr, shl-exact}
 use borrow.Author.Tests.{lt-ltb}
 use Rattle.bitset.specs.Sets.{any, one-if, single}
 use Rattle.bitset.specs.Numbers.{has, setOf}
-use Rattle.bitset.proofs.Tests.{decided}
+use Rattle.bitset.proofs.Tests.{or-none, decided}
 use Rattle.bitset.proofs.Below.{any-none, any-not}
 
 -- THE LOWEST DIGIT AND THE REST
@@ -113,6 +113,13 @@ same-members a b f = let h = below-pow (a + b) in same-below (a + b) a b (omega 
 
 pub none-empty : (n : ℕ) → ((t : ℕ) → has n t ≡ false) → n ≡ 0
 none-empty n f = same-members n 0 (λ t. rw has-empty (f t))
+
+-- where a union is empty, so are both
+pub or-empty : (a b : ℕ) → bitOr a b ≡ 0 → (a ≡ 0) × (b ≡ 0)
+or-empty a b e = (none-empty a (λ t. none t .0), none-empty b (λ t. none t .1))
+  where
+    none : (t : ℕ) → (has a t ≡ false) × (has b t ≡ false)
+    none t = or-none _ _ (sym (has-or a b t) ∙ rw e (has-empty t))
 
 pub has-high : (k n t : ℕ) → n < 2 ^ k → k ≤ t → has n t ≡ false
 unfolding has

@@ -16,9 +16,9 @@ use lib.Pow.{pow-mono}
 use borrow.Author.Tests.{lt-ltb, eqb-true, ne-eqb}
 use Rattle.bitset.specs.Sets.{any}
 use Rattle.bitset.specs.Numbers.{has, setOf}
-use Rattle.bitset.proofs.Tests.{and-in, and-out, or-left, or-right, or-cases, or-none, not-so, decided}
+use Rattle.bitset.proofs.Tests.{and-in, and-out, or-left, or-right, or-cases, not-so, decided}
 use Rattle.bitset.proofs.Below.{any-in, any-out, any-none, any-cong}
-use Rattle.bitset.proofs.Bits.{has-or, has-empty, none-empty}
+use Rattle.bitset.proofs.Bits.{has-empty, or-empty}
 use Rattle.bitset.proofs.Members.{has-strike}
 use Rattle.bitset.proofs.Taking.{Left, taken, any-next}
 use Rattle.semiautomata.specs.Semiautomaton.{Semiautomaton}
@@ -35,12 +35,6 @@ use Rattle.pairs.proofs.Starts.{share-starts}
 use Rattle.lookahead.specs.inner.Rivals.{Together, Named, Matched, both, Forked, Rivalry, Endless}
 
 -- A SET WITH ITSELF
-
-or-empty : (a b : ℕ) → bitOr a b ≡ 0 → (a ≡ 0) × (b ≡ 0)
-or-empty a b e = (none-empty a (λ t. none t .0), none-empty b (λ t. none t .1))
-  where
-    none : (t : ℕ) → (has a t ≡ false) × (has b t ≡ false)
-    none t = or-none _ _ (sym (has-or a b t) ∙ rw e (has-empty t))
 
 -- with one state or none no two are different
 pub alone : (set : ℕ) → set < 2 ^ 64 → bitAnd set (set - 1) ≡ 0 → (s t : ℕ) → ¬ (s ≡ t) → (has set s && has set t) ≡ false

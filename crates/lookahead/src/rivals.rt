@@ -53,7 +53,7 @@ fn pair_forks(rows: &mut [u64; 64], sets: &[u64], n: usize, m: usize, q: usize) 
 }
 
 // The pairs of different states that some critical set that counts has both of, into rows without pairs; answers the states that some
-// walk reaches. A state is taken as in `walks::reachable`, and its fork sets are paired when they are joined.
+// walk reaches. A state is taken as in `walks::reachable`; its fork sets are joined and, where one has two states, paired.
 pub fn rivals(rows: &mut [u64; 64], sets: &[u64], n: usize, m: usize, starts: u64) -> u64
     requires { ⌜ Fit n m (now sets) × (starts < 2 ^ n) × (now rows ≡ replicate 64 0) ⌝ }
     ensures { λ r. ⌜ Rivalry (successors n m starts (now (sets .entry))) (now (rows .exit))
@@ -64,7 +64,7 @@ pub fn rivals(rows: &mut [u64; 64], sets: &[u64], n: usize, m: usize, starts: u6
     let mut done: u64 = 0;
     while seen != done {
         let mut rest = seen ^ done;
-        done = seen;
+        done = seen; // once the rest is taken
         while rest != 0 {
             let q = u64::trailing_zeros(rest) as usize;
             seen |= pair_forks(rows, sets, n, m, q);

@@ -108,19 +108,19 @@ module _ (n m : ℕ) (sets : List ℕ) (F : Fit n m sets) where
 
   -- of the states that a letter leads on, those below s are put in: s is one too, or not
   module _ {a s out : ℕ} (ha : a < m) (hs : s < n) (e : out ≡ ledOn n m sets s a) where
-    pub led-with : ¬ (setAt m sets s a ≡ 0) → bitOr out ((1 * 2 ^ s) % 2 ^ 64) ≡ ledOn n m sets (s + 1) a
+    pub led-on-with : ¬ (setAt m sets s a ≡ 0) → bitOr out ((1 * 2 ^ s) % 2 ^ 64) ≡ ledOn n m sets (s + 1) a
     unfolding setOf
-    led-with ne =
+    led-on-with ne =
         let on = some-member n (setAt m sets s a) (omega (arith, ne)) (place-fits F s a hs ha) in
         let low : out < 2 ^ s = rw e (setOf-lt s _) in
         rw (add-one, on, shl-one 64 s (omega (arith, F .states)), ← one-mul (2 ^ s), or-shifted-r 1 s out low) (omega (arith, e))
 
-    pub led-without : setAt m sets s a ≡ 0 → out ≡ ledOn n m sets (s + 1) a
+    pub led-on-without : setAt m sets s a ≡ 0 → out ≡ ledOn n m sets (s + 1) a
     unfolding setOf
-    led-without z = rw (add-one, e, any-none n (has (setAt m sets s a)) (λ t _. rw z (has-empty t))) (omega arith)
+    led-on-without z = rw (add-one, e, any-none n (has (setAt m sets s a)) (λ t _. rw z (has-empty t))) (omega arith)
 
-  led-is : (a s : ℕ) → a < m → s < n → has (ledOn n m sets n a) s ≡ any n (S .edge s a)
-  led-is a s ha hs = rw (has-setOf, lt-ltb s n hs) (any-cong n _ _ λ t _. sym (edge-is n m 0 sets s a t hs ha))
+  led-on-is : (a s : ℕ) → a < m → s < n → has (ledOn n m sets n a) s ≡ any n (S .edge s a)
+  led-on-is a s ha hs = rw (has-setOf, lt-ltb s n hs) (any-cong n _ _ λ t _. sym (edge-is n m 0 sets s a t hs ha))
 
   module _ {rows : List ℕ} (k : Paired (replicate 64 0) rows (ledOn n m sets n) (ledOn n m sets n) m) where
     shares : (s t : ℕ) → pair rows s t ≡ any m (λ a. has (ledOn n m sets n a) s && has (ledOn n m sets n a) t)
@@ -130,7 +130,7 @@ module _ (n m : ℕ) (sets : List ℕ) (F : Fit n m sets) where
     unfolding live
     level-one = record {
       is = λ s t hs ht. shares s t ∙ any-cong m _ _ λ a ha.
-          rw (led-is a s ha hs, led-is a t ha ht) (any-both n (S .edge s a) (S .edge t a));
+          rw (led-on-is a s ha hs, led-on-is a t ha ht) (any-both n (S .edge s a) (S .edge t a));
     }
 
     pub one-fits : Fits n rows

@@ -57,7 +57,7 @@ pub fn lead(sets: &[u64], n: usize, m: usize, rows: &[u64; 64], s: usize, t: usi
 }
 
 // The states that the letter leads on.
-fn able(sets: &[u64], n: usize, m: usize, letter: usize) -> u64
+fn led_on(sets: &[u64], n: usize, m: usize, letter: usize) -> u64
     requires { ⌜ Fit n m (now sets) × (letter < m) ⌝ }
     ensures { λ r. ⌜ r ≡ ledOn n m (now (sets .entry)) n letter ⌝ }
 {
@@ -77,8 +77,8 @@ fn share_letter(sets: &[u64], n: usize, m: usize) -> [u64; 64]
 {
     let mut live = [0u64; 64];
     for a in 0..m {
-        let led = able(sets, n, m, a);
-        rows::pair_up(&mut live, led, led);
+        let states = led_on(sets, n, m, a);
+        rows::pair_up(&mut live, states, states);
     }
     live
 }
@@ -142,7 +142,7 @@ fn wake_row(back: &[u64], n: usize, m: usize, s: usize, set: u64, look: &mut [u6
     }
 }
 
-// Every pair that some letter leads to a struck one is looked at; `back` is the table turned round.
+// Every pair that some letter leads to a struck one is put into `look`, of others nothing is said; `back` is the table turned round.
 fn wake(back: &[u64], n: usize, m: usize, struck: &[u64; 64], look: &mut [u64; 64])
     requires { ⌜ Fit n m (now back) × Fits n (now struck) × (length (now look) ≡ 64) ⌝ }
     ensures { λ r. ⌜ (length (now (look .exit)) ≡ 64) × Waking m (now (back .entry)) (now (struck .entry)) (now (look .exit)) n ⌝ }
@@ -183,9 +183,10 @@ pub fn settle(sets: &[u64], n: usize, m: usize, rival: &[u64; 64]) -> Levels
         };
     }
     let shared = share_letter(sets, n, m);
+    // every pair, and then those that share no letter
     let mut struck = [all; 64];
     let mut gone = rows::without(&mut struck, n, &shared);
-    // nothing to turn the table round for
+    // none is struck: the level repeats, and no table need be cleared
     if gone == 0 {
         return Levels {
             stable: true,

@@ -45,8 +45,8 @@ pub fn turn(back: &mut [u64; semiautomata::MAX_SETS], sets: &[u64], n: usize, m:
     }
 }
 
-// The struck pairs are taken out of the rows, where they are among them; in any case those are left that one of the two has and not the
-// other. Answers the union of the rows that are left.
+// In the first n rows the struck pairs are taken out, where they are among them; in any case those are left that one of the two has and
+// not the other. The other rows are kept. Answers the union of the first n rows as they are left.
 pub fn without(rows: &mut [u64; 64], n: usize, struck: &[u64; 64]) -> u64
     requires { ⌜ (n ≤ 64) × (length (now rows) ≡ 64) ⌝ }
     ensures { λ r. ⌜ Without (now (rows .entry)) (now (struck .entry)) (now (rows .exit)) n × Union (now (rows .exit)) r n ⌝ }

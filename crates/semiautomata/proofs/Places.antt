@@ -23,10 +23,10 @@ pub place-small : {n m : ℕ} → n ≤ 64 → m ≤ 32 → (q a : ℕ) → q < 
 place-small {n} {m} x y q a h g = lt-of-lt-of-le (place-lt n m q a h g) (size-le x y)
 
 module _ (m q a : ℕ) (h : a < m) where
-  pub place-state : place m q a / m ≡ q
+  place-state : place m q a / m ≡ q
   place-state = let p : 0 < m = omega arith in rw (mul-add-div-right p q a, div-eq-of-lt h) (omega arith)
 
-  pub place-letter : place m q a % m ≡ a
+  place-letter : place m q a % m ≡ a
   place-letter = mul-add-mod-self-right q m a ∙ mod-eq-of-lt h
 
 -- a place has one state and one letter

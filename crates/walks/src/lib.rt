@@ -49,7 +49,7 @@ pub fn gather(sets: &[u64], n: usize, m: usize, set: u64, letter: usize) -> Gath
 }
 
 // The members of a set that the letter leads to some member of the target.
-pub fn back(sets: &[u64], n: usize, m: usize, set: u64, letter: usize, target: u64) -> u64
+fn back(sets: &[u64], n: usize, m: usize, set: u64, letter: usize, target: u64) -> u64
     requires { ⌜ Fit n m (now sets) × (set < 2 ^ n) × (letter < m) × (target < 2 ^ n) ⌝ }
     ensures { λ r. ⌜ r ≡ setOf n (λ s. has set s && any n (λ t. has target t && has (getD (now (sets .entry)) (place m s letter) 0) t)) ⌝ }
 {
@@ -184,7 +184,7 @@ pub fn reachable(sets: &[u64], n: usize, m: usize, starts: u64) -> u64
     let mut done: u64 = 0;
     while seen != done {
         let mut rest = seen ^ done;
-        done = seen;
+        done = seen; // once the rest is taken
         while rest != 0 {
             let s = u64::trailing_zeros(rest) as usize;
             seen |= leads_to(sets, n, m, s);

@@ -18,7 +18,7 @@ abbrev μ-loop : tie.MeasureT-loop
 loop-again : tie.Need-loop-again Inv-loop μ-loop
 loop-again c =
     let k = c .before .before .before in
-    (omega arith, paired-next (rw (c .before .before .able .ensures) at (c .pair-up .ensures)) (k .before .loop .inv .1))
+    (omega arith, paired-next (rw (c .before .before .led-on .ensures) at (c .pair-up .ensures)) (k .before .loop .inv .1))
 
 returns : tie.Need-returns Inv-loop μ-loop
 returns c =

@@ -1,4 +1,4 @@
--- `rivals::pair_forks` meets its contract. First the fork sets are joined, and seen to have two states or not; then they are paired.
+-- `rivals::pair_forks` meets its contract. First the fork sets are joined; then, where one has two states, they are paired.
 -- Assumes nothing.
 use Prim.Native.Nat.{ℕ, _-_, _≤_, _<_}
 use mathlib.Core.Path.{_≡_, _∙_}

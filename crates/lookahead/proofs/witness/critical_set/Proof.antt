@@ -1,4 +1,4 @@
--- `witness::critical_set` meets its contract. Between two turns no fork set passed has both states.
+-- `witness::critical_set` meets its contract. Between two turns no fork set of a reached state that was passed has both.
 -- Assumes nothing.
 use Prim.Native.Nat.{ℕ, _≤_, _<_, _-_}
 use mathlib.Core.Bool.{false, and-false}

@@ -1,4 +1,4 @@
--- `able` meets its contract.
+-- `led_on` meets its contract.
 -- Assumes nothing.
 use Prim.Native.Nat.{_≤_, _<_, _-_}
 use mathlib.Core.Logic.{⊎-elim}
@@ -9,9 +9,9 @@ use Rattle.bitset.specs.Numbers.{setOf}
 use Rattle.semiautomata.specs.Successors.{place}
 use Rattle.semiautomata.proofs.Places.{place-in}
 use Rattle.pairs.specs.inner.Rounds.{ledOn}
-use Rattle.pairs.proofs.Rounds.{led-with, led-without}
-use Rattle.pairs.proofs.able.Statement.{statement}
-use Rattle.pairs.proofs.able.Tie as tie
+use Rattle.pairs.proofs.Rounds.{led-on-with, led-on-without}
+use Rattle.pairs.proofs.led_on.Statement.{statement}
+use Rattle.pairs.proofs.led_on.Tie as tie
 
 abbrev Inv-loop : tie.InvT-loop
 Inv-loop sets n m letter out₀ s₀ out s = (s ≤ n) × (out ≡ ledOn n m sets s letter)
@@ -36,15 +36,15 @@ loop-again c =
     let i = k .before .loop .inv .1 in
     let hs = k .loop-test .taken in
     ⊎-elim
-    (λ w. rw (w .1) (omega arith, led-with _ _ _ f ha hs i (w .0 .taken)))
-    (λ w. rw (w .1) (omega arith, led-without _ _ _ f ha hs i (w .0 .left)))
+    (λ w. rw (w .1) (omega arith, led-on-with _ _ _ f ha hs i (w .0 .taken)))
+    (λ w. rw (w .1) (omega arith, led-on-without _ _ _ f ha hs i (w .0 .left)))
     (c .if1 .came)
 
 returns : tie.Need-returns Inv-loop μ-loop
 returns c = let e : c .before .loop .s ≡ c .before .before .args .n = omega arith in rw e at (c .before .loop .inv .1)
 
-pub able-spec : {M : Type 1} → statement M
-able-spec =
+pub led-on-spec : {M : Type 1} → statement M
+led-on-spec =
     tie.close
     (tie.spec
     Inv-loop
