@@ -1,6 +1,6 @@
 -- Claims that a plan has no look-ahead: the set that is named, cycles that lead back, and what the parts of a claim come to.
 -- Assumes nothing.
-use Prim.Native.Nat.{ℕ, zero, suc, _+_, _-_, _*_, _%_, _^_, _≤_, _<_}
+use Prim.Native.Nat.{ℕ, _+_, _-_, _*_, _%_, _^_, _≤_, _<_}
 use mathlib.Core.Bool.{Bool, true, false, not, _&&_, _||_, true≢false, false≢true, and-true, and-false}
 use mathlib.Core.Option.{some, Option·some-injective}
 use mathlib.Core.Path.{_≡_, refl, sym, _∙_, subst, fun-ext}
@@ -9,7 +9,7 @@ use mathlib.Core.List.{List, [], _∷_, _++_}
 use native.Mathlib.Omega.{arith}
 use lib.Bits.{bitAnd}
 use lib.Dec.{eqb, ltb, leb}
-use lib.ListN.{length, getD, take, drop, length-drop}
+use lib.ListN.{length, take, drop, length-drop}
 use lib.Pow.{pow-lt}
 use lib.Seq.{length-take-le, getD-take, getD-drop, take-add}
 use borrow.Author.Tests.{lt-ltb, le-ltb, ltb-false, lt-leb, leb-true, leb-false, eq-eqb, ne-eqb, eqb-true, eqb-false, not-false}
@@ -23,7 +23,7 @@ use Rattle.semiautomata.specs.Predictability.{Critical, initial, fork, member, 
 use Rattle.semiautomata.specs.Access.{accessible}
 use Rattle.semiautomata.specs.Walks.{reach}
 use Rattle.semiautomata.specs.Successors.{setAt, successors, Fit}
-use Rattle.semiautomata.proofs.Paths.{path-join, path-lt}
+use Rattle.semiautomata.proofs.Paths.{path-join, path-lt, path-letters}
 use Rattle.semiautomata.proofs.Computed.{reach-in, reach-out}
 use Rattle.semiautomata.proofs.Shares.{member-lt}
 use Rattle.semiautomata.proofs.Successors.{edge-is, fit-within}
@@ -172,11 +172,6 @@ module _ {n m : ℕ} {sets : List ℕ} (f : Fit n m sets) {s : ℕ} (h : s < n) 
 
 -- THE LETTERS
 
-path-letters : {S : Semiautomaton} → Within S → (w : List ℕ) (s t : ℕ) → Path S s w t → (i : ℕ) → i < length w → getD w i 0 < S .m
-path-letters W [] s t p i h = absurd (omega arith)
-path-letters W (a ∷ w) s t (r, e, p) zero h = W .letter-lt s a r e
-path-letters W (a ∷ w) s t (r, e, p) (suc i) h = path-letters W w r t p i (omega arith)
-
 -- a part of a word has no other letters
 part-letters : {m : ℕ} (end : ℕ) (word : List ℕ) → Letters m (take end word) → end ≤ length word → (at size : ℕ) → at + size ≤ end
     → Letters m (take size (drop at word))
@@ -234,10 +229,8 @@ module _ {S : Semiautomaton} (W : Within S) (k : Evidence) (letters : List ℕ) 
       let l = c .witness .s-lasso in
       let stem = take (k .stem) letters in
       let cycle = take (k .cycle) (drop (k .stem) letters) in
-      rw (take-add (k .stem) (k .cycle) letters) (record {
-        below =
-            path-letters W (stem ++ cycle) (k .low) (l .knot) (path-join S stem cycle (k .low) (l .knot) (l .knot) (l .reached) (l .back));
-      })
+      let round = path-join S stem cycle (k .low) (l .knot) (l .knot) (l .reached) (l .back) in
+      rw (take-add (k .stem) (k .cycle) letters) (record { below = path-letters S W (stem ++ cycle) (k .low) (l .knot) round })
 
   module _ {set : ℕ} (N : NamedSet S (k .state) (k .letter) set) {low high : Bool}
       (low-is : low ≡ has set (k .low)) (high-is : high ≡ has set (k .high)) where

@@ -75,8 +75,15 @@ module _ (S : Semiautomaton) where
       | yes k ↦ let (v, less, q) = shorten w s t h p k in few fuel v s t (omega arith) h q
     ]
 
+    -- an accessible state is reached by n letters or fewer
+    pub accessible-short : (q : ℕ) → Accessible S q → (c : Accessible S q) × (length (c .word) ≤ S .n)
+    accessible-short q c =
+        let (v, l, p) = few (length (c .word)) (c .word) (c .start) q (omega arith) (W .initial-lt (c .start) (c .from-it)) (c .path) in
+        (record { start = c .start; from-it = c .from-it; word = v; path = p }, l)
+
     pub accessible-in : (q : ℕ) → Accessible S q → accessible S q ≡ true
     unfolding accessible accessibleBy
     accessible-in q c =
-        let (v, l, p) = few (length (c .word)) (c .word) (c .start) q (omega arith) (W .initial-lt (c .start) (c .from-it)) (c .path) in
-        by-more (length v) (S .n) q l (by-on v 0 (length v) (c .start) q (omega arith) (c .from-it) p)
+        let (c, l) = accessible-short q c in
+        let w = c .word in
+        by-more (length w) (S .n) q l (by-on w 0 (length w) (c .start) q (omega arith) (c .from-it) (c .path))

@@ -3,15 +3,16 @@
 use Prim.Native.Nat.{ℕ, zero, suc, _+_, _-_, _*_, _/_, _≤_, _<_}
 use mathlib.Core.Bool.{Bool, true, false, true≢false}
 use mathlib.Core.Path.{_≡_, refl, sym, _∙_}
-use mathlib.Core.Logic.{_⊎_, inl, inr}
+use mathlib.Core.Logic.{_⊎_, _↔_, inl, inr}
 use native.Mathlib.Omega.{arith}
 use native.Mathlib.Decide.{ℕ-discrete}
 use Rattle.bitset.specs.Sets.{any}
 use Rattle.bitset.proofs.Tests.{and-in, and-out, or-left, or-right, or-cases, decided}
 use Rattle.bitset.proofs.Below.{any-in, with-any, any-out}
+use Rattle.semiautomata.specs.Such.{LeastSuch}
 use Rattle.semiautomata.specs.Semiautomaton.{Semiautomaton, Within}
 use Rattle.semiautomata.specs.Predictability.{Critical, initial, fork, member, Counts, Share, Clash, SomeClash, SetPredictable, Need}
-use Rattle.semiautomata.specs.Predictability.{Lookahead, Unpredictable, Claim, Witness}
+use Rattle.semiautomata.specs.Predictability.{Predictable, Lookahead, Unpredictable, Claim, Witness}
 use Rattle.semiautomata.specs.Levels.{live, counts, clashIn, clashOf, clash}
 use Rattle.semiautomata.proofs.Shares.{share-shorter, member-lt, rivals-lt, clash-shorter, clash-ordered, predictable-more}
 use Rattle.semiautomata.proofs.Access.{accessible-in, accessible-out}
@@ -90,6 +91,28 @@ module _ (S : Semiautomaton) where
 
     pub clash-in : (j : ℕ) → SomeClash S j → clash S j ≡ true
     clash-in j (T, c, k) = clash-by j T c k
+
+    -- with j letters two rivals share a word, or S is j-predictable
+    pub clash-else : (j : ℕ) → ¬ Predictable S j → SomeClash S j
+    clash-else j no-such = elim (decided (clash S j)) [
+      | inl e ↦ clash-out j e
+      | inr e ↦ absurd (no-such (λ T c h. true≢false (sym (clash-in j (T, c, h)) ∙ e)))
+    ]
+
+    -- the look-ahead is the least number of whatever holds exactly where S is so predictable
+    pub least-such : (Q : ℕ → Type 0) → ((j : ℕ) → Predictable S j ↔ Q j) → (k : ℕ) → Lookahead S k ↔ LeastSuch Q k
+    least-such Q same k = (
+      λ l. record {
+        enough = same k .0 (l .enough);
+        least = λ j q.
+            let below : ¬ (j < k) = λ h. let (T, c, d) = l .least j h in same j .1 q T c d in
+            omega (arith, below);
+      },
+      λ l. record {
+        enough = same k .1 (l .enough);
+        least = λ j h. clash-else j (λ p. let g = l .least j (same j .0 p) in omega (arith, g, h));
+      },
+    )
 
     -- the first level without a clash is the look-ahead
     pub lookahead-first : (k : ℕ) → ((j : ℕ) → j < k → clash S j ≡ true) → clash S k ≡ false → Lookahead S k

@@ -1,10 +1,11 @@
 -- Paths and the words they spell: joined, split, shortened, and carried into a larger semiautomaton; the states that they reach.
 -- Assumes nothing.
-use Prim.Native.Nat.{ℕ, _<_}
+use Prim.Native.Nat.{ℕ, zero, suc, _<_}
 use mathlib.Core.Bool.{true}
 use mathlib.Core.Path.{_≡_, refl}
 use mathlib.Core.List.{List, [], _∷_, _++_}
-use lib.ListN.{take, drop, take-append-drop}
+use native.Mathlib.Omega.{arith}
+use lib.ListN.{length, getD, take, drop, take-append-drop}
 use Rattle.semiautomata.specs.Semiautomaton.{Semiautomaton, Within, Path, Spells, Accessible, Reached, Sub}
 
 module _ (S : Semiautomaton) where
@@ -19,6 +20,12 @@ module _ (S : Semiautomaton) where
   pub path-lt : Within S → (w : List ℕ) (s t : ℕ) → s < S .n → Path S s w t → t < S .n
   path-lt W [] s t h p = rw p at h
   path-lt W (a ∷ w) s t h (x, e, p) = path-lt W w x t (W .to-lt s a x e) p
+
+  -- what can be walked has letters below m only
+  pub path-letters : Within S → (w : List ℕ) (s t : ℕ) → Path S s w t → (i : ℕ) → i < length w → getD w i 0 < S .m
+  path-letters W [] s t p i h = absurd (omega arith)
+  path-letters W (a ∷ w) s t (r, e, p) zero h = W .letter-lt s a r e
+  path-letters W (a ∷ w) s t (r, e, p) (suc i) h = path-letters W w r t p i (omega arith)
 
   pub spells-after : (u v : List ℕ) (s t : ℕ) → Path S s u t → Spells S t v → Spells S s (u ++ v)
   spells-after u v s t p (r, q) = (r, path-join u v s t r p q)

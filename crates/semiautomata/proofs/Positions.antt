@@ -13,7 +13,7 @@ use borrow.Author.Tests.{eqb-true, eq-eqb}
 use Rattle.bitset.specs.Sets.{single}
 use Rattle.semiautomata.specs.Semiautomaton.{Semiautomaton, Within, Path, Spells, Accessible, Reached}
 use Rattle.semiautomata.specs.Predictability.{fork, Counts, SetPredictable, Predictable}
-use Rattle.semiautomata.specs.Walks.{Walkable, OnPlan, Longest, Possible, PossibleAt}
+use Rattle.semiautomata.specs.Walks.{Walkable, OnPlan, Longest, Possible, PossibleAt, Only}
 use Rattle.semiautomata.proofs.Paths.{path-join, path-split, path-lt, spells-after, spells-split, spells-prefix, spells-take}
 use Rattle.semiautomata.proofs.Paths.{accessible-after}
 use Rattle.semiautomata.proofs.Computed.{longest-unique}
@@ -141,7 +141,7 @@ module _ (S : Semiautomaton) (X : ℕ → Bool) where
 
 -- WHOLE WALKS: of a walk that is on the plan, the longest beginning on the plan is the walk itself
 module _ (S : Semiautomaton) (w : List ℕ) (o : OnPlan S w) where
-  on-plan-longest : Longest S w (length w)
+  pub on-plan-longest : Longest S w (length w)
   on-plan-longest = record { fits = omega arith; walked = rw (take-length w) o; most = λ h l _. l }
 
   pub whole-in : (i x : ℕ) → i ≤ length w → Possible S (S .initial) w i x → PossibleAt S w i x
@@ -149,6 +149,17 @@ module _ (S : Semiautomaton) (w : List ℕ) (o : OnPlan S w) where
 
   pub whole-out : (i x : ℕ) → PossibleAt S w i x → Possible S (S .initial) w i x
   whole-out i x c = rw (longest-unique S w (c .g) (length w) (c .longest) on-plan-longest, take-length w) at (c .is)
+
+-- the one possible state of the longest beginning on the plan is that of the walk
+pub only-longest : (S : Semiautomaton) (w : List ℕ) (g : ℕ) → Longest S w g → (i x : ℕ) → i ≤ g → Only S (take g w) i x → Only S w i x
+only-longest S w g l i x h one =
+    let o = l .walked in
+    record {
+      is = record { g = g; longest = l; fits = h; is = whole-out S (take g w) o i x (one .is) };
+      only = λ y c.
+          let d : Possible S (S .initial) (take g w) i y = rw (longest-unique S w (c .g) g (c .longest) l) at (c .is) in
+          one .only y (whole-in S (take g w) o i y (rw (length-take-le g w (l .fits)) h) d);
+    }
 
 -- a possible state of a walk is accessible
 pub possible-accessible : (S : Semiautomaton) (w : List ℕ) (i x : ℕ) → Possible S (S .initial) w i x → Accessible S x

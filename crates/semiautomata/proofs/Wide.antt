@@ -2,22 +2,21 @@
 -- without its unreachable states.
 -- Assumes nothing.
 use Prim.Native.Nat.{ℕ, _≤_, _<_}
-use mathlib.Core.Bool.{true, false, true≢false}
-use mathlib.Core.Path.{_≡_, sym, _∙_}
-use mathlib.Core.Logic.{_↔_, inl, inr}
+use mathlib.Core.Bool.{true}
+use mathlib.Core.Path.{_≡_}
+use mathlib.Core.Logic.{_↔_}
 use mathlib.Core.List.{List, [], _∷_}
 use native.Mathlib.Omega.{arith}
-use Rattle.bitset.proofs.Tests.{and-in, and-out, decided}
+use Rattle.bitset.proofs.Tests.{and-in, and-out}
 use Rattle.semiautomata.specs.Semiautomaton.{Semiautomaton, Within, Path, Accessible, Sub}
 use Rattle.semiautomata.specs.Predictability.{Critical, initial, fork, member, Counts, Clash, SomeClash, Predictable, Lookahead}
 use Rattle.semiautomata.specs.Predictability.{Unpredictable}
 use Rattle.semiautomata.specs.Access.{accessible, trim}
-use Rattle.semiautomata.specs.Levels.{clash}
 use Rattle.semiautomata.specs.Wide.{PredictableWide, LookaheadWide, UnpredictableWide}
 use Rattle.semiautomata.proofs.Paths.{initial-accessible, accessible-next, accessible-sub}
 use Rattle.semiautomata.proofs.Shares.{share-sub}
 use Rattle.semiautomata.proofs.Access.{accessible-in, accessible-out}
-use Rattle.semiautomata.proofs.Decide.{clash-in, clash-out}
+use Rattle.semiautomata.proofs.Decide.{least-such}
 
 -- NEVER MORE
 
@@ -114,26 +113,8 @@ module _ (S : Semiautomaton) where
       λ p T c h. p T (trim-clash k T c h),
     )
 
-    -- with j letters two rivals share a word, or S is j-predictable
-    clash-else : (j : ℕ) → ¬ Predictable S j → SomeClash S j
-    clash-else j no-such = elim (decided (clash S j)) [
-      | inl e ↦ clash-out S j e
-      | inr e ↦ absurd (no-such (λ T c h. true≢false (sym (clash-in S W j (T, c, h)) ∙ e)))
-    ]
-
     pub trim-lookahead : (k : ℕ) → Lookahead S k ↔ LookaheadWide (trim S) k
-    trim-lookahead k = (
-      λ l. record {
-        enough = trim-predictable k .0 (l .enough);
-        least = λ j p.
-            let below : ¬ (j < k) = λ h. let (T, c, d) = l .least j h in trim-predictable j .1 p T c d in
-            omega (arith, below);
-      },
-      λ l. record {
-        enough = trim-predictable k .1 (l .enough);
-        least = λ j h. clash-else j (λ p. let g = l .least j (trim-predictable j .0 p) in omega (arith, g, h));
-      },
-    )
+    trim-lookahead = least-such S W (PredictableWide (trim S)) trim-predictable
 
     pub trim-unpredictable : Unpredictable S ↔ UnpredictableWide (trim S)
     trim-unpredictable = (λ u k p. u k (trim-predictable k .1 p), λ u k p. u k (trim-predictable k .0 p))

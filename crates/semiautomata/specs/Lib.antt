@@ -1,4 +1,5 @@
 pub mod Lists
+pub mod Such
 pub mod Semiautomaton
 pub mod Access
 pub mod Sizes

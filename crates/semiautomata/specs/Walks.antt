@@ -6,6 +6,7 @@ use mathlib.Core.Path.{_≡_}
 use mathlib.Core.List.{List, [], _∷_}
 use lib.ListN.{length, take, drop}
 use Rattle.bitset.specs.Sets.{any}
+use Rattle.semiautomata.specs.Such.{TwoSuch}
 use Rattle.semiautomata.specs.Semiautomaton.{Semiautomaton, Path, Spells}
 
 -- Some state of the set X can walk the word.
@@ -33,12 +34,8 @@ pub record Possible (S : Semiautomaton) (X : ℕ → Bool) (w : List ℕ) (i x :
   pub after : Spells S x (drop i w)
 
 -- Two or more states are possible at position i of w walked from X.
-pub record TwoPossible (S : Semiautomaton) (X : ℕ → Bool) (w : List ℕ) (i : ℕ) : Type 0 where
-  pub x : ℕ
-  pub y : ℕ
-  pub differ : ¬ (x ≡ y)
-  pub one : Possible S X w i x
-  pub other : Possible S X w i y
+abbrev pub TwoPossible : Semiautomaton → (ℕ → Bool) → List ℕ → ℕ → Type 0
+TwoPossible S X w i = TwoSuch (Possible S X w i)
 
 -- x is a possible state at position i of the whole walk w (Theorem 3): with g the length of its longest beginning on the plan, reached
 -- from an initial state by the first i letters, and from it letters i + 1 to g can be walked.

@@ -1,6 +1,7 @@
 -- The wide rule: 003's own Definition 1, in which every critical set counts, whether or not a walk reaches it. So it was before W-202.
 -- Assumes nothing.
-use Prim.Native.Nat.{ℕ, _≤_}
+use Prim.Native.Nat.{ℕ}
+use Rattle.semiautomata.specs.Such.{LeastSuch}
 use Rattle.semiautomata.specs.Semiautomaton.{Semiautomaton}
 use Rattle.semiautomata.specs.Predictability.{Critical, member, SetPredictable}
 
@@ -9,9 +10,8 @@ abbrev pub PredictableWide : Semiautomaton → ℕ → Type 0
 PredictableWide S k = (T : Critical) → SetPredictable S (member S T) k
 
 -- The least such k.
-pub record LookaheadWide (S : Semiautomaton) (k : ℕ) : Type 0 where
-  pub enough : PredictableWide S k
-  pub least : (j : ℕ) → PredictableWide S j → k ≤ j
+abbrev pub LookaheadWide : Semiautomaton → ℕ → Type 0
+LookaheadWide S = LeastSuch (PredictableWide S)
 
 -- There is none.
 abbrev pub UnpredictableWide : Semiautomaton → Type 0
