@@ -10,6 +10,7 @@ pub mod Decide
 pub mod Wide
 pub mod Computed
 pub mod Positions
+pub mod Waiting
 pub mod Selectors
 pub mod Successors
 pub mod Places

@@ -11,6 +11,7 @@ use Rattle.semiautomata.proofs.Levels as levels
 use Rattle.semiautomata.proofs.Decide as decide
 use Rattle.semiautomata.proofs.Computed as computed
 use Rattle.semiautomata.proofs.Positions as positions
+use Rattle.semiautomata.proofs.Waiting as waiting
 use Rattle.semiautomata.proofs.Selectors as verdicts
 
 pub theorems : (S : Semiautomaton) → Theorems S
@@ -51,6 +52,11 @@ theorems S = record {
   whole-walk = λ w o i x h. (positions.whole-out S w o i x, positions.whole-in S w o i x h);
   possible-accessible = positions.possible-accessible S;
   never-grow = positions.possible-earlier S;
+  none-for-nothing = waiting.none-for-nothing S;
+  least-wait = waiting.least-wait S;
+  endless-doubt = waiting.endless-doubt S;
+  decides-is = waiting.decides-is S;
+  doubt-is = waiting.doubt-is S;
   survivors-is = λ W X below w t. (verdicts.survivors-out S W X below w t, verdicts.survivors-in S W X below w t);
   selector-is = λ W X below w. (verdicts.selector-out S W X below w, verdicts.selector-in S W X below w);
   minimal-is = λ W X below w. (verdicts.minimal-out S W X below w, verdicts.minimal-in S W X below w);

@@ -6,6 +6,7 @@ pub mod Sizes
 pub mod Predictability
 pub mod Wide
 pub mod Walks
+pub mod Waiting
 pub mod Selectors
 pub mod Levels
 pub mod Successors

@@ -1,6 +1,6 @@
 -- What is proved of these definitions, a line of plain words to each theorem. proofs/Theorems.antt has the proof of them all.
 -- Assumes nothing.
-use Prim.Native.Nat.{ℕ, _-_, _*_, _/_, _≤_, _<_}
+use Prim.Native.Nat.{ℕ, _+_, _-_, _*_, _/_, _≤_, _<_}
 use mathlib.Core.Bool.{Bool, true}
 use mathlib.Core.Path.{_≡_}
 use mathlib.Core.Logic.{_⊎_, _↔_}
@@ -13,6 +13,7 @@ use Rattle.semiautomata.specs.Access.{accessible, trim}
 use Rattle.semiautomata.specs.Wide.{LookaheadWide, UnpredictableWide}
 use Rattle.semiautomata.specs.Levels.{live, counts, clashIn, clash, Repeats}
 use Rattle.semiautomata.specs.Walks.{Walkable, OnPlan, Longest, Possible, PossibleAt, spells, survivors, walkable, possible, longest}
+use Rattle.semiautomata.specs.Waiting.{InDoubt, Decides, LeastWait}
 use Rattle.semiautomata.specs.Selectors.{Survives, Selector, MinimalSelector, MaximalNonselector, selector, minimalSelector}
 use Rattle.semiautomata.specs.Selectors.{maximalNonselector}
 
@@ -78,6 +79,18 @@ pub record Theorems (S : Semiautomaton) : Type 0 where
   pub possible-accessible : (w : List ℕ) (i x : ℕ) → Possible S (S .initial) w i x → Accessible S x
   -- Theorem 3's sets never grow with later letters
   pub never-grow : (X : ℕ → Bool) (w v : List ℕ) (i x : ℕ) → i ≤ length w → Possible S X (w ++ v) i x → Possible S X w i x
+  -- WAITING (W-203)
+  -- no letter is waited for in vain: where the look-ahead k is 1 or more, a word of at most n + k letters has a position in doubt that
+  -- k - 1 letters follow
+  pub none-for-nothing : Within S → (k : ℕ) → 1 ≤ k → Lookahead S k → (d : InDoubt S (k - 1)) × (length (d .word) ≤ S .n + k)
+  -- the look-ahead is the least number of letters that decide every position, and where there is none, any number of letters leaves some
+  -- position in doubt
+  pub least-wait : Within S → (k : ℕ) → Lookahead S k ↔ LeastWait S k
+  pub endless-doubt : Within S → Unpredictable S ↔ ((j : ℕ) → InDoubt S j)
+  -- j letters decide every position exactly if they leave none in doubt, and they leave one in doubt exactly if two different states of a
+  -- critical set that counts share a word of j letters
+  pub decides-is : (j : ℕ) → Decides S j ↔ ¬ InDoubt S j
+  pub doubt-is : Within S → (j : ℕ) → InDoubt S j ↔ SomeClash S j
   -- VERDICTS, for any set of states: the tests that compute say what they mean
   pub survivors-is : Within S → (X : ℕ → Bool) → Below S X → (w : List ℕ) (t : ℕ) → (survivors S X w t ≡ true) ↔ Survives S X w t
   pub selector-is : Within S → (X : ℕ → Bool) → Below S X → (w : List ℕ) → (selector S X w ≡ true) ↔ Selector S X w
