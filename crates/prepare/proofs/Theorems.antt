@@ -10,6 +10,7 @@ use lib.ListN.{length}
 use Rattle.semiautomata.proofs.Shares.{lookahead-unique, lookahead-predicts}
 use Rattle.semiautomata.proofs.Wide.{never-more, wide-missing, trim-lookahead, trim-unpredictable}
 use Rattle.semiautomata.proofs.Bound.{lookahead-bound, lookahead-bound-one}
+use Rattle.semiautomata.proofs.Waiting.{none-for-nothing, least-wait, endless-doubt}
 use Rattle.semiautomata.specs.Semiautomaton.{Semiautomaton}
 use Rattle.semiautomata.specs.Predictability.{Lookahead}
 use Rattle.refusals.specs.Outcomes.{answered}
@@ -97,6 +98,9 @@ module _ (A : Asked) (P : Proper A) where
     wide-missing = λ e old letters s. wide-missing (A .means) (shown-never (never s .1));
     compared = λ k old letters a. trim-lookahead (A .means) (P .sized (ready a .0) .within) k .0 (ready a .1);
     compared-missing = λ e old letters s. trim-unpredictable (A .means) (P .sized (never s .0) .within) .0 (shown-never (never s .1));
+    none-for-nothing = λ k old letters a h. none-for-nothing (A .means) (P .sized (ready a .0) .within) k h (ready a .1);
+    least-wait = λ k old letters a. least-wait (A .means) (P .sized (ready a .0) .within) k .0 (ready a .1);
+    endless-doubt = λ e old letters s. endless-doubt (A .means) (P .sized (never s .0) .within) .0 (shown-never (never s .1));
     evidence-passes = passes;
   }
 

@@ -10,6 +10,7 @@ use Rattle.semiautomata.specs.Semiautomaton.{Semiautomaton}
 use Rattle.semiautomata.specs.Predictability as predictability
 use Rattle.semiautomata.specs.Access.{trim}
 use Rattle.semiautomata.specs.Wide.{LookaheadWide, UnpredictableWide}
+use Rattle.semiautomata.specs.Waiting.{InDoubt, LeastWait}
 use Rattle.refusals.specs.Outcomes.{refused, answered}
 use Rattle.plan.specs.Asked.{Asked, Passes, Proper}
 use Rattle.table.specs.Table.{setsFrom, unfit, contents, contentsOf}
@@ -58,6 +59,14 @@ pub record Theorems (A : Asked) : Type 0 where
   pub compared : (k : ℕ) (old letters : List ℕ) → EitherCall A (Ready k) old letters → LookaheadWide (trim (A .means)) k
   pub compared-missing : (e : Evidence) (old letters : List ℕ) → EitherCall A (Unpredictable e) old letters
       → UnpredictableWide (trim (A .means))
+  -- W-203, no leg held for nothing: where k is 1 or more, a walk from a start, wholly on the plan, has a position that exactly k - 1 legs
+  -- follow, with at least two possible stakes; and it has no more than n + k legs, so that a logger takes them
+  pub none-for-nothing : (k : ℕ) (old letters : List ℕ) → EitherCall A (Ready k) old letters → 1 ≤ k
+      → (d : InDoubt (A .means) (k - 1)) × (length (d .word) ≤ A .means .n + k)
+  -- so k is the least number such that every position of every walk on the plan that k or more legs follow has one possible stake; and
+  -- under 15 any number of legs leaves some position in doubt
+  pub least-wait : (k : ℕ) (old letters : List ℕ) → EitherCall A (Ready k) old letters → LeastWait (A .means) k
+  pub endless-doubt : (e : Evidence) (old letters : List ℕ) → EitherCall A (Unpredictable e) old letters → (j : ℕ) → InDoubt (A .means) j
   -- the evidence that is answered passes the check
   pub evidence-passes : (e : Evidence) (old letters : List ℕ) → EitherCall A (Unpredictable e) old letters → (r : Checked)
       → Checks A e letters r → r ≡ Yes
