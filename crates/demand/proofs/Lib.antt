@@ -1,4 +1,5 @@
 pub mod Feeding
+pub mod Waiting
 pub mod Theorems
 pub mod Rows
 pub mod Sample

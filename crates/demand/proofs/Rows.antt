@@ -9,7 +9,8 @@ use mathlib.Core.List.{List, [], _∷_}
 use native.Mathlib.Omega.{arith}
 use lib.Dec.{eqb, ltb}
 use lib.ListN.{length, getD, take}
-use borrow.Author.Tests.{eqb-true, le-ltb, ltb-false}
+use lib.Seq.{take-length}
+use borrow.Author.Tests.{eqb-true, ltb-false}
 use Rattle.bitset.specs.Sets.{any, size}
 use Rattle.bitset.specs.Numbers.{setOf}
 use Rattle.bitset.proofs.Tests.{not-so}
@@ -17,14 +18,13 @@ use Rattle.bitset.proofs.Below.{any-in, any-not}
 use Rattle.semiautomata.specs.Semiautomaton.{Semiautomaton, Within}
 use Rattle.semiautomata.specs.Predictability.{fork, member, named, Counts}
 use Rattle.semiautomata.specs.Access.{accessibleBy, accessible}
-use Rattle.semiautomata.specs.Walks.{Longest, PossibleAt, spells, step, possible, walkable, greatest, longest}
+use Rattle.semiautomata.specs.Walks.{OnPlan, Longest, PossibleAt, spells, step, possible, walkable, greatest, longest}
 use Rattle.semiautomata.specs.Selectors.{selector, minimalSelector, maximalNonselector}
 use Rattle.semiautomata.specs.Levels.{live, clashIn, clash}
 use Rattle.refusals.specs.Outcomes.{Outcome, refused, answered}
 use Rattle.semiautomata.proofs.Access.{accessible-in}
 use Rattle.semiautomata.proofs.Paths.{initial-accessible}
 use Rattle.semiautomata.proofs.Shares.{lookahead-unique, lookahead-predicts}
-use Rattle.semiautomata.proofs.Computed.{longest-unique}
 use Rattle.plan.specs.Bytes.{meaning, asked, refusal, WellFormed}
 use Rattle.plan.proofs.Refusals.{well-formed-within, asked-proper}
 use Rattle.prepare.specs.declared.Prepared.{Prepared}
@@ -49,17 +49,17 @@ use Rattle.predictor.proofs.Following as following
 use Rattle.demand.specs.Rows.{Saying, walked, judged, unopened, at-bound, claimed, uncounted, forged, Row, Replied, drawn, IsSo}
 use Rattle.demand.specs.Rows.{AllSo, RowHolds, AllRows, evidence, rows}
 use Rattle.prepare.proofs.Theorems.{theorems as preparing-theorems}
-use Rattle.table.specs.Table.{statesOf, lettersOf, lookaheadOf, tableMeaning, unfit}
+use Rattle.table.specs.Table.{lettersOf, lookaheadOf, tableMeaning, unfit}
 use Rattle.walks.specs.Walking.{letterOff}
 use Rattle.simulate.specs.declared.Verdict.{Verdict}
 use Rattle.simulate.specs.declared.Walked.{Walked}
-use Rattle.simulate.specs.declared.Walked.the-variants as walks
+use Rattle.simulate.specs.declared.Walked.the-variants.{Upto}
 use Rattle.simulate.specs.declared.Judged.{Judged}
 use Rattle.simulate.specs.declared.Judged.the-variants as judging
-use Rattle.simulate.specs.Walking.{walkRefusal, Walks}
+use Rattle.simulate.specs.Walking.{Walks}
 use Rattle.simulate.specs.Verdicts.{Stands, verdictRefusal, Judges, Tells}
 use Rattle.simulate.specs.inner.Verdicts.{Computes}
-use Rattle.simulate.proofs.Theorems.{one-set, one-verdict, walked as walked-so}
+use Rattle.simulate.proofs.Theorems.{one-set, one-verdict, to-its-end, walked as walked-so}
 use Rattle.demand.specs.Demand.{Made}
 use Rattle.walks.proofs.Longest.{longest-some}
 use Rattle.simulate.proofs.Positions.{possible-stands}
@@ -91,25 +91,15 @@ module _ (plan : List ℕ) (W : Within (meaning plan)) (k : ℕ) (table : List �
   fit : unfit table ≡ false
   fit = t (asked plan) (asked-proper plan) k table made .fit
 
-  walk-so : (w sets : List ℕ) → any (meaning plan .n) (meaning plan .initial) ≡ true → letterOff (meaning plan .m) w ≡ false
-      → Longest (meaning plan) w (length w)
+  walk-so : (w sets : List ℕ) → OnPlan (meaning plan) w
       → ((i : ℕ) → i ≤ length w → Stands (meaning plan .n) (PossibleAt (meaning plan) w i) (getD sets i 0))
       → (old out : List ℕ) (a : Walked) → length w < length old → Walks table w a old out
-      → (a ≡ walks.Upto (length w)) × ((i : ℕ) → i ≤ length w → getD out i 0 ≡ getD sets i 0)
-  unfolding walkRefusal
-  walk-so w sets begun letters whole stand old out (walks.Refused r) room (e, n, _) =
-      let e9 : ltb (length old) (suc (length w)) ≡ false = le-ltb (length old) (suc (length w)) room in
-      let e12 : letterOff (lettersOf table) w ≡ false = subst (λ (S : Semiautomaton). letterOff (S .m) w ≡ false) (sym means) letters in
-      let e13 : any (statesOf table) (tableMeaning table .initial) ≡ true =
-      subst (λ (S : Semiautomaton). any (S .n) (S .initial) ≡ true) (sym means) begun in
-      absurd (n (e ∙ rw (fit, e9, e12, e13)))
-  walk-so w sets begun letters whole stand old out (walks.Upto h) room c =
-      let (l, s, _, _) = walked-so table w h old out c in
-      let q : h ≡ length w = longest-unique (meaning plan) w h (length w) (subst (λ (S : Semiautomaton). Longest S w h) means l) whole in (
-        ap walks.Upto q,
-        λ i g.
-            one-set _ _ _ _ (subst (λ (S : Semiautomaton). Stands (S .n) (PossibleAt S w i) (getD out i 0)) means
-            (s i (omega arith))) (stand i g),
+      → (a ≡ Upto (length w)) × ((i : ℕ) → i ≤ length w → getD out i 0 ≡ getD sets i 0)
+  walk-so w sets o stand old out a room c =
+      let end = to-its-end table w a old out fit (subst (λ (S : Semiautomaton). OnPlan S w) (sym means) o) room c in
+      let (_, s, _, _) = walked-so table w (length w) old out (rw end at c) in (
+        end,
+        λ i h. one-set _ _ _ _ (subst (λ (S : Semiautomaton). Stands (S .n) (PossibleAt S w i) (getD out i 0)) means (s i h)) (stand i h),
       )
 
   judge-so : (q a : ℕ) (w : List ℕ) (v : Verdict) → named (meaning plan) q a ≡ some (fork q a) → letterOff (meaning plan .m) w ≡ false
@@ -167,7 +157,7 @@ not-false false e = absurd (false≢true (sym e))
 
 abbrev Computed : Semiautomaton → Saying → Type 0
 Computed S (walked w sets) =
-    (any (S .n) (S .initial) ≡ true) × (letterOff (S .m) w ≡ false) × (longest S w ≡ length w)
+    (any (S .n) (S .initial) ≡ true) × (longest S w ≡ length w)
     × (any (suc (length w)) (λ i. not (eqb (getD sets i 0) (setOf (S .n) (possible S (S .initial) (take (length w) w) i)))) ≡ false)
 Computed S (judged q a w v) = (named S q a ≡ some (fork q a)) × (letterOff (S .m) w ≡ false) × Computes S (member S (fork q a)) w v
 Computed S unopened = any (S .n) (S .initial) ≡ false
@@ -183,10 +173,10 @@ AllComputed S [] = Unit {0}
 AllComputed S (c ∷ cs) = Computed S c × AllComputed S cs
 
 is-so : (plan : List ℕ) → WellFormed plan → Within (meaning plan) → (c : Saying) → Computed (meaning plan) c → IsSo plan c
-is-so plan wf W (walked w sets) (begun, letters, whole, at) = λ k table old out a made.
+is-so plan wf W (walked w sets) (begun, whole, at) = λ k table old out a made.
     let S = meaning plan in
     let l : Longest S w (length w) = rw whole at (longest-some S W w begun) in
-    walk-so plan W k table made w sets begun letters l
+    walk-so plan W k table made w sets (rw (take-length w) at (l .walked))
     (λ i h. possible-stands S w W (length w) l i h (eqb-true _ _ (not-false _ (any-not _ _ at i (omega arith))))) old out a
 is-so plan wf W (judged q a w v) (name, letters, c) =
     λ k table r made. judge-so plan W k table made q a w v name letters (tells (meaning plan) W (fork q a) c) r
@@ -256,24 +246,24 @@ unfolding any spells step possible walkable greatest longest selector minimalSel
 rows-said = (
   (
     (refl, refl, record { survivors = refl; minimal = refl; nonselected = refl }),
-    ((refl, refl, record { survivors = refl; minimal = refl; nonselected = refl }), tt),
+    ((refl, refl, record { survivors = refl; minimal = refl; nonselected = refl }), ((refl, refl, refl), tt)),
   ),
   (
     tt,
     (
-      ((refl, refl, refl, refl), tt),
+      ((refl, refl, refl), tt),
       (
         ((refl, refl), ((refl, refl, record { survivors = refl; minimal = refl; nonselected = refl }), tt)),
         (
           (refl, tt),
           (
-            ((refl, refl, refl, refl), tt),
+            ((refl, refl, refl), tt),
             (
-              (refl, tt),
+              (refl, ((refl, refl, refl), tt)),
               (
                 tt,
                 (
-                  tt,
+                  ((refl, refl, refl), tt),
                   (
                     (twice-named, ((refl, refl), tt)),
                     ((refl, ((refl, refl), tt)), (((refl, refl, refl, refl), ((refl, refl), tt)), tt)),

@@ -2,7 +2,7 @@
 -- Assumes nothing.
 use Prim.Native.Nat.{ℕ, _+_, _^_, _≤_, _<_}
 use mathlib.Core.Bool.{true, false, not, false≢true}
-use mathlib.Core.Path.{_≡_, refl, sym, _∙_, ap}
+use mathlib.Core.Path.{_≡_, refl, sym, _∙_, ap, subst}
 use mathlib.Core.Logic.{inl, inr}
 use mathlib.Core.List.{List, [], _∷_, map}
 use native.Mathlib.Omega.{arith}
@@ -35,6 +35,7 @@ use Rattle.predictor.specs.Calls.{letterChecks, written, openedOn, fedOn, Opens
 use Rattle.demand.specs.Demand.{Made, Walk, Taken, Theorems, TheoremsMet, DemandMet}
 use Rattle.predictor.proofs.Following.{Holds, Small, encode-holds, follows-small, opened-is}
 use Rattle.demand.proofs.Feeding.{feeding-replies}
+use Rattle.demand.proofs.Waiting.{two-shown, one-shown}
 
 -- a table that fits has a look-ahead that two bytes can count
 few : (table : List ℕ) → unfit table ≡ false → lookaheadOf table < 2 ^ 16
@@ -110,8 +111,11 @@ module _ (A : Asked) (P : Proper A) (k : ℕ) (table : List ℕ) (made : Made A 
   abbrev K : ℕ
   K = lookaheadOf table
 
+  ahead : Lookahead S k
+  ahead = rw (t .means) (made .prepared .0 .1)
+
   here : Lookahead S K
-  here = rw (t .means, t .k-is) (made .prepared .0 .1)
+  here = rw (t .k-is) ahead
 
   same : (s : ℕ) → S .initial s ≡ A .means .initial s
   same s = ap (λ (T : Semiautomaton). T .initial s) (t .means)
@@ -150,6 +154,10 @@ module _ (A : Asked) (P : Proper A) (k : ℕ) (table : List ℕ) (made : Made A 
         on-never-14 table (t .fit) (here .enough) bytes letter (rw (t .means, t .k-is) access) (sym (f .0) ∙ q);
     fresh-refusals = λ offered first answers w taken.
         rw (walked-right offered first answers w taken .as-plain) (over-meaning.plain-refusals (A .means) k offered);
+    two-shown = λ h.
+        let (d, short) = two-shown table (t .fit) k ahead h in
+        (d, subst (λ (T : Semiautomaton). length (d .word) ≤ T .n + k) (t .means) short);
+    one-shown = one-shown table (t .fit) k ahead;
   }
 
 pub met : TheoremsMet

@@ -1,11 +1,14 @@
--- Demand 3 (the user's term 3; document 01, Walks), of any calls that keep their promises, lent a table for which preparing's promise held.
+-- Demand 3 (the user's term 3; document 01, Walks), of any calls that keep their promises, lent a table for which preparing's promise held;
+-- and what else follows of such a table.
 -- Assumes nothing.
-use Prim.Native.Nat.{ℕ, _+_, _-_, _*_, _/_, _≤_}
+use Prim.Native.Nat.{ℕ, _+_, _-_, _*_, _/_, _^_, _≤_, _<_}
 use mathlib.Core.Bool.{true, false}
 use mathlib.Core.Logic.{_↔_}
 use mathlib.Core.Path.{_≡_}
 use mathlib.Core.List.{List, [], _∷_, map}
-use lib.ListN.{length}
+use lib.ListN.{length, getD}
+use Rattle.bitset.specs.Numbers.{has}
+use Rattle.semiautomata.specs.Such.{TwoSuch}
 use Rattle.semiautomata.specs.Semiautomaton.{Reached}
 use Rattle.semiautomata.specs.Predictability.{Lookahead}
 use Rattle.streaming.specs.Calls.{refused}
@@ -22,6 +25,9 @@ use Rattle.prepare.specs.declared.Prepared.{Prepared}
 use Rattle.prepare.specs.declared.Prepared.the-variants.{Ready, Unpredictable}
 use Rattle.prepare.specs.Preparing.{Prepares, CountsTo}
 use Rattle.prepare.specs.Theorems.{EitherCall, Right}
+use Rattle.simulate.specs.declared.Walked.{Walked}
+use Rattle.simulate.specs.declared.Walked.the-variants.{Upto}
+use Rattle.simulate.specs.Walking.{Walks}
 use Rattle.deciding.specs.declared.Answer.{Answer}
 use Rattle.records.specs.Bytes.{heldFrom, decode}
 use Rattle.deciding.specs.Replies.{said}
@@ -54,6 +60,15 @@ pub record Walk (table : List ℕ) (k : ℕ) (offered : List ℕ) (first : Answe
 abbrev pub Taken : Answer → Type 0
 Taken first = (r : ℕ) → ¬ (said first ≡ refused r)
 
+-- A word and a position of it that exactly j letters follow, such that a whole walk of it with this table goes to its end and shows at
+-- least two different states there.
+pub record ShownInDoubt (table : List ℕ) (j : ℕ) : Type 0 where
+  pub word : List ℕ
+  pub position : ℕ
+  pub later : position + j ≡ length word
+  pub shown : (a : Walked) (old out : List ℕ) → length word < length old → Walks table word a old out
+      → (a ≡ Upto (length word)) × TwoSuch (λ x. has (getD out position 0) x ≡ true)
+
 -- What follows of a table that preparing made.
 pub record Theorems (A : Asked) (k : ℕ) (table : List ℕ) (made : Made A k table) : Type 0 where
   -- opening with 8 + k bytes or more is refused exactly if there are no starts, and then with 13
@@ -68,6 +83,11 @@ pub record Theorems (A : Asked) (k : ℕ) (table : List ℕ) (made : Made A k ta
   -- and it is never met from a fresh opening on: only 11, 12 and 13 are
   pub fresh-refusals : (offered : List ℕ) (first : Answer) (answers : List Answer) → Walk table k offered first answers → Taken first
       → Only11to13 (map said (first ∷ answers))
+  -- W-203 as whole walks show it: where k is 1 or more, one of at most n + k letters has two states at a position that exactly k - 1
+  -- letters follow; and all have one state at each position that k or more letters on the plan follow
+  pub two-shown : 1 ≤ k → (d : ShownInDoubt table (k - 1)) × (length (d .word) ≤ A .means .n + k)
+  pub one-shown : (word : List ℕ) (g : ℕ) (old out : List ℕ) → Walks table word (Upto g) old out
+      → (i : ℕ) → i + k ≤ g → (x : ℕ) × (getD out i 0 ≡ 2 ^ x)
 
 -- They hold of everything that a call may ask.
 abbrev pub TheoremsMet : Type 0

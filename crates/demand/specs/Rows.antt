@@ -103,17 +103,24 @@ abbrev pub evidence : ℕ → ℕ → ℕ → ℕ → ℕ → ℕ → Evidence
 evidence state letter low high stem cycle =
     record { state = state; letter = letter; low = low; high = high; stem = stem; cycle = cycle }
 
+-- Of each sample whose look-ahead is 1 or more a walk is shown with two or more states at a position that exactly k - 1 letters follow
+-- (W-203): of A at position 3, of the others at 0.
 abbrev pub rows : List Row
 rows =
-    row A (judged 1 0 [] (verdict 6 false 4) ∷ judged 1 0 (0 ∷ []) (verdict 2 true 0) ∷ [])
+    row A (
+    judged 1 0 [] (verdict 6 false 4)
+    ∷ judged 1 0 (0 ∷ []) (verdict 2 true 0)
+    ∷ walked (0 ∷ 0 ∷ 0 ∷ []) (1 ∷ 2 ∷ 2 ∷ 6 ∷ [])
+    ∷ []
+    )
     ∷ row B []
     ∷ row C (walked (0 ∷ 1 ∷ []) (3 ∷ 4 ∷ 8 ∷ []) ∷ [])
     ∷ row D (uncounted 1 0 ∷ judged 1 0 [] (verdict 6 false 0) ∷ [])
     ∷ row E (unopened ∷ [])
     ∷ row F (walked [] (3 ∷ []) ∷ [])
-    ∷ row G (at-bound ∷ [])
+    ∷ row G (at-bound ∷ walked (0 ∷ 1 ∷ []) (3 ∷ 6 ∷ 5 ∷ []) ∷ [])
     ∷ row H []
-    ∷ row C′ []
+    ∷ row C′ (walked (0 ∷ 1 ∷ []) (12 ∷ 2 ∷ 1 ∷ []) ∷ [])
     ∷ row B′ (claimed (evidence 0 0 0 1 0 1) (0 ∷ []) ∷ uncounted 2 0 ∷ [])
     ∷ row B″ (unopened ∷ uncounted 0 0 ∷ [])
     ∷ row D′ (forged (5 ∷ 0 ∷ 0 ∷ 0 ∷ 0 ∷ 0 ∷ 0 ∷ 0 ∷ []) 0 ∷ uncounted 0 0 ∷ [])

@@ -1,25 +1,31 @@
 -- The theorems of specs/Theorems.antt.
 -- Assumes nothing.
-use Prim.Native.Nat.{ℕ, suc, _≤_}
-use mathlib.Core.Bool.{Bool, true, false, false≢true}
+use Prim.Native.Nat.{ℕ, suc, _≤_, _<_}
+use mathlib.Core.Bool.{Bool, true, false, not, false≢true}
 use mathlib.Core.Option.{some}
-use mathlib.Core.Path.{_≡_, sym, _∙_}
+use mathlib.Core.Path.{_≡_, sym, _∙_, ap}
 use mathlib.Core.List.{List}
 use native.Mathlib.Omega.{arith}
 use lib.ListN.{length, getD, drop, length-append, length-drop}
 use lib.Pow.{pow-pos}
 use lib.Seq.{drop-at}
-use borrow.Author.Tests.{ltb-false, not-false}
-use Rattle.bitset.proofs.Tests.{same-test}
+use borrow.Author.Tests.{le-ltb, ltb-false, not-false}
+use Rattle.bitset.proofs.Tests.{not-so, same-test}
+use Rattle.bitset.proofs.Below.{any-in}
 use Rattle.bitset.proofs.Bits.{has-empty, setOf-cong, setOf-has}
 use Rattle.semiautomata.specs.Semiautomaton.{Semiautomaton}
 use Rattle.semiautomata.specs.Predictability.{Critical, member, named}
-use Rattle.semiautomata.specs.Walks.{Longest, PossibleAt}
-use Rattle.refusals.proofs.First.{first-passed}
-use Rattle.table.specs.Table.{statesOf, tableMeaning}
+use Rattle.semiautomata.specs.Walks.{OnPlan, Longest, PossibleAt}
+use Rattle.semiautomata.proofs.Paths.{path-letters}
+use Rattle.semiautomata.proofs.Computed.{longest-unique}
+use Rattle.semiautomata.proofs.Positions.{on-plan-longest}
+use Rattle.refusals.proofs.First.{first-passed, passed-first}
+use Rattle.table.specs.Table.{statesOf, tableMeaning, unfit}
 use Rattle.table.proofs.Fitness.{fitting}
+use Rattle.walks.proofs.Letters.{letters-stray}
 use Rattle.walks.proofs.Longest.{longest-some}
-use Rattle.simulate.specs.declared.Walked.the-variants.{Upto}
+use Rattle.simulate.specs.declared.Walked.{Walked}
+use Rattle.simulate.specs.declared.Walked.the-variants.{Upto, Refused}
 use Rattle.simulate.specs.declared.Verdict.{Verdict}
 use Rattle.simulate.specs.declared.Judged.the-variants.{Told}
 use Rattle.simulate.specs.Walking.{walkChecks, walkRefusal, traced, Walks}
@@ -53,6 +59,21 @@ walked table word g old out (z, (e, is)) =
       simp (length-append, length-drop, size) (omega (arith, l .fits, room)),
     )
 
+pub to-its-end : (table word : List ℕ) (a : Walked) (old out : List ℕ) → unfit table ≡ false → OnPlan (tableMeaning table) word
+    → length word < length old → Walks table word a old out → a ≡ Upto (length word)
+unfolding walkRefusal
+to-its-end table word (Upto g) old out fit o room c =
+    let S = tableMeaning table in
+    ap Upto (longest-unique S word g (length word) (walked table word g old out c .0) (on-plan-longest S word o))
+to-its-end table word (Refused r) old out fit o room (e, n, _) =
+    let S = tableMeaning table in
+    let W = fitting table fit .within in
+    let (t, p) = o .spells in
+    let long = le-ltb (length old) (suc (length word)) room in
+    let on = not-so _ (λ off. letters-stray (S .m) word off (record { below = path-letters S W word (o .start) t p })) in
+    let some = any-in (S .n) (S .initial) (o .start) (W .initial-lt (o .start) (o .from-it)) (o .from-it) in
+    absurd (n (e ∙ passed-first (walkChecks table word (length old)) (fit, (long, (on, (ap not some, tt))))))
+
 abbrev verdict : ℕ → Bool → ℕ → Verdict
 verdict survivors minimal nonselected = record { survivors = survivors; minimal = minimal; nonselected = nonselected }
 
@@ -82,4 +103,4 @@ empty-set table q a word T name none v (_, tell) =
     })
 
 pub theorems : Theorems
-theorems = record { one-set = one-set; walked = walked; one-verdict = one-verdict; empty-set = empty-set }
+theorems = record { one-set = one-set; walked = walked; to-its-end = to-its-end; one-verdict = one-verdict; empty-set = empty-set }

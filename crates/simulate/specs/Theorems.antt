@@ -1,7 +1,8 @@
--- What follows of the promises of this crate: a whole walk's sets are Theorem 3's, and there is one verdict.
+-- What follows of the promises of this crate: a whole walk's sets are Theorem 3's, a word on the plan is walked to its end, and there is
+-- one verdict.
 -- proofs/Theorems.antt has the proofs.
 -- Assumes nothing.
-use Prim.Native.Nat.{ℕ, suc, _≤_}
+use Prim.Native.Nat.{ℕ, suc, _≤_, _<_}
 use mathlib.Core.Bool.{false}
 use mathlib.Core.Option.{some}
 use mathlib.Core.Path.{_≡_}
@@ -9,8 +10,9 @@ use mathlib.Core.List.{List}
 use lib.ListN.{length, getD, drop}
 use Rattle.semiautomata.specs.Semiautomaton.{Semiautomaton}
 use Rattle.semiautomata.specs.Predictability.{Critical, member, named}
-use Rattle.semiautomata.specs.Walks.{Longest, PossibleAt}
-use Rattle.table.specs.Table.{statesOf, tableMeaning}
+use Rattle.semiautomata.specs.Walks.{OnPlan, Longest, PossibleAt}
+use Rattle.table.specs.Table.{statesOf, tableMeaning, unfit}
+use Rattle.simulate.specs.declared.Walked.{Walked}
 use Rattle.simulate.specs.declared.Walked.the-variants.{Upto}
 use Rattle.simulate.specs.declared.Verdict.{Verdict}
 use Rattle.simulate.specs.declared.Judged.the-variants.{Told}
@@ -27,6 +29,9 @@ pub record Theorems : Type 1 where
       × ((i : ℕ) → i ≤ g → Stands (statesOf table) (PossibleAt (tableMeaning table) word i) (getD out i 0))
       × (drop (suc g) out ≡ drop (suc g) old)
       × (length out ≡ length old)
+  -- a word that is on the plan is walked to its end, with a fit table and room for all its positions
+  pub to-its-end : (table word : List ℕ) (a : Walked) (old out : List ℕ) → unfit table ≡ false → OnPlan (tableMeaning table) word
+      → length word < length old → Walks table word a old out → a ≡ Upto (length word)
   -- a word has one verdict
   pub one-verdict : (S : Semiautomaton) (T : Critical) (word : List ℕ) (v w : Verdict) → Tells S T word v → Tells S T word w → v ≡ w
   -- a critical set without states gives empty sets and no selector
