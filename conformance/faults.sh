@@ -60,6 +60,17 @@ fault "write: 9 before 1 to 7" calls.rs 'fn write(plan: &[u8], out: &mut [u8]) -
 fault "write: the rest of the buffer cleared" calls.rs 'put(out, &form);' 'put(out, &form); if FAULT { out[form.len()..].fill(0); }'
 fault "group: a number cut to 8 bits" mod.rs 'list.contains(&number)' 'list.contains(&if FAULT { number % 256 } else { number })'
 fault "group: caller and logger exchanged" mod.rs 'place as u32 + 1)' 'if FAULT && place > 0 { 4 - place as u32 } else { place as u32 + 1 })'
+fault "in doubt: with k legs behind" doubt.rs 'pairs.share(x, y, legs)' 'pairs.share(x, y, legs + FAULT as usize)'
+fault "in doubt: one leg short" doubt.rs '(0..legs).rev()' '(FAULT as usize..legs).rev()'
+fault "in doubt: with the legs before and not behind" doubt.rs 'Some((walk, position))' 'Some((walk, if FAULT { legs } else { position }))'
+fault "in doubt: between a stake and itself" doubt.rs 'x != y &&' '(FAULT || x != y) &&'
+fault "in doubt: a walk from any stake" doubt.rs 'members(&plan.starts)' 'if FAULT { (0..plan.n).collect() } else { members(&plan.starts) }'
+fault "in doubt: two stakes by two words" doubt.rs 'members(&plan.starts)' 'if FAULT { members(&plan.reached()) } else { members(&plan.starts) }'
+fault "in doubt: behind forks that no walk reaches" doubt.rs 'let mut done = Vec::new();' 'let mut done = Vec::new(); if FAULT { to_do.extend((0..plan.n).map(|s| (s, s, vec![]))); }'
+fault "in doubt: at the starts alone" doubt.rs 'for (code, x, y) in pairs.edges(s, t) {' 'for (code, x, y) in pairs.edges(s, t) { if FAULT { break; }'
+fault "in doubt: two starts only" doubt.rs 'if s <= t {' 'if s < t || (s == t && !FAULT) {'
+fault "in doubt: not behind where two stakes meet" doubt.rs 'if !seen[x * plan.n + y] {' 'if !seen[x * plan.n + y] && !(FAULT && x == y) {'
+fault "in doubt: not under 15" lookahead.rs 'Shared::Endless => true' 'Shared::Endless => !FAULT'
 # which evidence is given is free, so the library's is not compared with the reference's: each is checked by itself
 kind=evidence
 fault "evidence named by an unreachable stake" claim.rs 'example_of(plan, &plan.critical_sets(), choose)' 'if FAULT { let sets: Vec<_> = plan.every_set().into_iter().rev().collect(); return example_of(plan, &sets, choose); } example_of(plan, &plan.critical_sets(), choose)'

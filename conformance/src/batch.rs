@@ -12,6 +12,7 @@ use crate::reference::record::{feed, Record};
 use crate::reference::table::{plan_of, table_of};
 use crate::reference::{claim, size};
 use crate::session::Session;
+use crate::waiting::Waiting;
 
 /// A length to lend where `needed` would do: mostly that or more, sometimes one less, rarely none.
 fn lend(r: &mut Random, needed: usize) -> usize {
@@ -136,6 +137,12 @@ fn session(r: &mut Random, bytes: &[u8], plan: &Plan, k: usize) -> Case {
     Case::Session(Session { plan: bytes.to_vec(), legs: walks::offered(r, &legs, plan.m), extra: r.below(4) })
 }
 
+/// How long the plan lets wait (W-203), with long walks of a few legs more than k or of many.
+fn waiting(r: &mut Random, bytes: &[u8]) -> Case {
+    let many = r.below(300);
+    Case::Waiting(Waiting { plan: bytes.to_vec(), seed: r.next(), beyond: r.pick(&[0, 1, 5, 20, 60, many]) })
+}
+
 /// All cases of one seed, and the sound plan bytes that they begin with.
 pub fn batch(r: &mut Random) -> (Vec<u8>, Vec<Case>) {
     let draft = plans::plan(r);
@@ -172,6 +179,7 @@ pub fn batch(r: &mut Random) -> (Vec<u8>, Vec<Case>) {
         cases.extend(record_calls(r, &table, &plan, k));
         cases.push(session(r, &bytes, &plan, k));
     }
+    cases.push(waiting(r, &bytes));
     // a table that preparing need not have made: the plan with another k, or any
     let other = match r.below(3) {
         0 => 0,

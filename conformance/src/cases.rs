@@ -1,5 +1,5 @@
-//! A case is one call with all it is lent, or a whole session; running it on the reference and on a subject must give the same reply and
-//! the same elements in every lent slice.
+//! A case is one call with all it is lent, a whole session, or how long a plan lets wait; running a call on the reference and on a subject
+//! must give the same reply and the same elements in every lent slice.
 
 use crate::calls::{Calls, Description, CALLS};
 use crate::classes::met;
@@ -8,6 +8,7 @@ use crate::lent::{hex, pattern, Element, Given};
 use crate::reference::calls::{why, Reference};
 use crate::reference::{claim, plan};
 use crate::session::Session;
+use crate::waiting::Waiting;
 
 /// One call, with what is given for each parameter of its description.
 #[derive(Clone)]
@@ -20,6 +21,7 @@ pub struct Call {
 pub enum Case {
     Call(Call),
     Session(Session),
+    Waiting(Waiting),
 }
 
 /// A reply, and the call with what its slices hold then. Input slices are lent as copies, so that writing into one shows too.
@@ -137,7 +139,7 @@ impl Outcome {
     }
 }
 
-fn show_reply(reply: u32) -> String {
+pub fn show_reply(reply: u32) -> String {
     if reply >= REFUSED {
         return format!("refused {}", reply - REFUSED);
     }
@@ -150,6 +152,7 @@ impl Case {
         match self {
             Case::Call(call) => call.compare(subject),
             Case::Session(session) => session.compare(subject),
+            Case::Waiting(waiting) => waiting.compare(subject),
         }
     }
 
@@ -158,6 +161,7 @@ impl Case {
         match self {
             Case::Call(call) => call.show(),
             Case::Session(session) => session.show(),
+            Case::Waiting(waiting) => waiting.show(),
         }
     }
 }

@@ -239,7 +239,7 @@ const NARROWED: &[&str] = &[
 ];
 const EVIDENCE: &[&str] = &["9: letters", "9: evidence"];
 
-/// For each call, and for sessions: every answer and every refusal, with each part of a refusal's sentence.
+/// For each call, and for sessions and waiting: every answer and every refusal, with each part of a refusal's sentence.
 const CLASSES: &[(&str, &[&[&str]])] = &[
     ("read", &[PLAN, &["counts", "9: counts"]]),
     ("prepare", &[PLAN, &["9: table"], EVIDENCE, COUNT, NO_COUNT, NARROWED]),
@@ -267,6 +267,10 @@ const CLASSES: &[(&str, &[&[&str]])] = &[
     ("group", &[&GROUPS]),
     ("session", &[COUNT, &["13 at opening", "with refused legs 12", "with refused legs 13", "with refused legs above 255"]]),
     ("session with bookings,", &[COUNT, &["15 if every set counted"]]),
+    ("waiting", &[COUNT, &["no starts", "k 0, 15 if every set counted", "15"]]),
+    ("waiting in doubt", &[&["at position 0", "at a later position", "between three or more stakes", "until the next leg"]]),
+    ("waiting in doubt,", &[&["though a later position has one stake", "a larger k if every set counted", "15 if every set counted"]]),
+    ("waiting with a position decided,", &[COUNT]),
 ];
 
 /// Every class that a run must meet.

@@ -15,3 +15,4 @@ pub mod reference;
 pub mod session;
 pub mod shrink;
 pub mod tally;
+pub mod waiting;

@@ -8,6 +8,7 @@ use crate::forms::table::K;
 use crate::forms::MAX_STAKES;
 use crate::lent::{Element, Given};
 use crate::session::Session;
+use crate::waiting::Waiting;
 use std::time::{Duration, Instant};
 
 /// The list with one piece left out, for pieces from all of it down to one member.
@@ -81,15 +82,18 @@ fn smaller_tables(table: &[u64]) -> Vec<Vec<u64>> {
     tables
 }
 
+/// Half of it, and one less.
+fn smaller_numbers(number: usize) -> impl Iterator<Item = usize> {
+    [number / 2, number.saturating_sub(1)].into_iter().filter(move |&less| less < number)
+}
+
 /// Smaller ones in the place of what is given for a parameter of this name. A record's bytes all have their place.
 fn smaller_given(name: &str, given: &Given) -> Vec<Given> {
     fn all<T: Element>(lists: Vec<Vec<T>>) -> Vec<Given> {
         lists.into_iter().map(T::given).collect()
     }
     match (name, given) {
-        (_, &Given::Room(length)) => {
-            [length / 2, length.saturating_sub(1)].into_iter().filter(|&less| less < length).map(Given::Room).collect()
-        }
+        (_, &Given::Room(length)) => smaller_numbers(length).map(Given::Room).collect(),
         ("plan", Given::U8(bytes)) => all(smaller_plans(bytes)),
         ("rec", _) => vec![],
         (_, Given::U8(list)) => all(without_a_piece(list)),
@@ -127,6 +131,11 @@ fn smaller(case: &Case) -> Vec<Case> {
             let plans = smaller_plans(&session.plan).into_iter().map(|plan| Session { plan, ..session.clone() });
             let fitting = (session.extra > 0).then(|| Session { extra: 0, ..session.clone() });
             legs.chain(plans).chain(fitting).map(Case::Session).collect()
+        }
+        Case::Waiting(waiting) => {
+            let walks = smaller_numbers(waiting.beyond).map(|beyond| Waiting { beyond, ..waiting.clone() });
+            let plans = smaller_plans(&waiting.plan).into_iter().map(|plan| Waiting { plan, ..waiting.clone() });
+            walks.chain(plans).map(Case::Waiting).collect()
         }
     }
 }

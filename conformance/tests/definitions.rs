@@ -4,11 +4,13 @@ mod common;
 
 use conformance::random::{bytes, claims, plans, Random};
 use conformance::reference::claim;
+use conformance::reference::doubt::in_doubt;
 use conformance::reference::lookahead::{least, look_ahead};
 use conformance::reference::plan::{one_form, read, Plan};
 use conformance::reference::record::{feed, Record};
 use conformance::reference::walk::{possible, reach, verdict, whole_walk};
 use conformance::reference::{members, only, size};
+use std::collections::BTreeSet;
 
 fn words(m: usize, length: usize) -> Vec<Vec<u8>> {
     let mut list = vec![Vec::new()];
@@ -102,6 +104,45 @@ fn the_count_is_the_least_number_without_a_shared_word() {
     }
     println!("tiny plans with k 0, 1, ..: {found:?}; without: {none}");
     assert!(none > 100 && found[..5].iter().all(|&count| count > 0));
+}
+
+/// W-203 with walks written out, as the codes before a position and those behind it. The possible stakes there are those that the first
+/// lead to from a start and from which the others can be walked. Up to n codes before it are written out: the paths to two possible stakes
+/// part at the starts or at a fork, which is led to by no more, and there at least as many legs follow. A position in doubt with n(n-1)/2
+/// legs behind it means that there is no k.
+#[test]
+fn the_count_is_the_least_number_of_legs_without_doubt() {
+    let (mut found, mut none, mut later) = ([0; 11], 0, 0);
+    for (number, mut r, plan) in tiny_plans(3000) {
+        let bound = plan.n * (plan.n - 1) / 2;
+        let starts = members(&plan.starts);
+        let led_to = |word: &[u8]| -> Vec<usize> { (0..plan.n).filter(|&x| starts.iter().any(|&s| leads(&plan, s, word, x))).collect() };
+        let can_walk = |word: &[u8]| -> Vec<usize> { (0..plan.n).filter(|&x| walks(&plan, x, word)).collect() };
+        let possible = |before: &[usize], behind: &[usize]| before.iter().filter(|&x| behind.contains(x)).count();
+        let before: BTreeSet<Vec<usize>> = (0..=plan.n).flat_map(|length| words(plan.m, length)).map(|word| led_to(&word)).collect();
+        let is_in_doubt = |legs: usize| {
+            let behind: BTreeSet<Vec<usize>> = words(plan.m, legs).iter().map(|word| can_walk(word)).collect();
+            before.iter().any(|before| behind.iter().any(|behind| possible(before, behind) >= 2))
+        };
+        let doubts: Vec<bool> = (0..=bound).map(is_in_doubt).collect();
+        let least = (0..=bound).find(|&k| !doubts[k..].contains(&true));
+        assert_eq!(look_ahead(&plan), least, "case {number}: {plan:?}");
+        for (legs, &is_there) in doubts.iter().enumerate() {
+            let doubt = in_doubt(&plan, legs, &mut |ways| r.below(ways));
+            assert_eq!(doubt.is_some(), is_there, "case {number}: {legs} legs, {plan:?}");
+            let Some((walk, position)) = doubt else { continue };
+            let (before, behind) = walk.split_at(position);
+            assert_eq!(behind.len(), legs, "case {number}: {plan:?}");
+            assert!(possible(&led_to(before), &can_walk(behind)) >= 2, "case {number}: {walk:?} at {position}, {plan:?}");
+            later += (position > 0) as u32;
+        }
+        match least {
+            Some(k) => found[k] += 1,
+            None => none += 1,
+        }
+    }
+    println!("tiny plans in doubt for up to 0, 1, .. legs: {found:?}; for any number: {none}; behind the first position: {later}");
+    assert!(none > 100 && later > 500 && found[..4].iter().all(|&count| count > 20) && found[4] > 0);
 }
 
 /// W-202: "where we compare with source document 003, we compare after its unreachable stakes are taken out". In what remains every set

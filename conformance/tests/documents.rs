@@ -10,9 +10,11 @@ use conformance::forms::plan::header;
 use conformance::forms::*;
 use conformance::lent::{pattern, Kind, Parameter};
 use conformance::random::{plans, Random};
+use conformance::reference::doubt::in_doubt;
 use conformance::reference::plan::read;
 use conformance::session::Session;
 use conformance::shrink::fail;
+use conformance::waiting::Waiting;
 
 /// A prepared plan, or the refusal.
 fn prepared(calls: &dyn Calls, plan: &Draft) -> Result<(u32, Vec<u64>), u32> {
@@ -24,7 +26,7 @@ fn prepared(calls: &dyn Calls, plan: &Draft) -> Result<(u32, Vec<u64>), u32> {
     Ok((reply, table))
 }
 
-/// k or the refusal, by all three calls that count, and by reading; under 15 the evidence is checked.
+/// k or the refusal, by all three calls that count, and by reading; under 15 the evidence is checked. The k is the least by walks too.
 fn counted(calls: &dyn Calls, plan: &Draft, expected: Result<u32, u32>, name: &str) {
     let bytes = plan.bytes();
     let (n, m) = (plan.n, plan.m);
@@ -32,6 +34,7 @@ fn counted(calls: &dyn Calls, plan: &Draft, expected: Result<u32, u32>, name: &s
         Case::prepare(&bytes, table::length(n, m) + 1, letters(n) + 1, evidence::NUMBERS + 1),
         Case::look_ahead(&bytes, letters(n), evidence::NUMBERS),
         Case::count(&bytes),
+        Case::Waiting(Waiting { plan: bytes.clone(), seed: common::seed(), beyond: 3 }),
     ] {
         case.compare(calls).unwrap_or_else(|message| fail(&case, calls, message, name));
     }
@@ -113,6 +116,62 @@ fn plans_a_to_h() {
         // F: the empty walk has {0,1}
         let (_, table) = prepared(calls, &rows[5].1).expect("k 1");
         assert_eq!(walked(calls, &table, &[]), [set(&[0, 1])]);
+    }
+}
+
+/// A plan of the list, a walk on it, a position and the stakes there; for each code the stake that is left there by a leg more, if that can
+/// be walked.
+type WalkInDoubt = (&'static str, &'static [u8], usize, &'static [u32], &'static [Option<u32>]);
+
+/// W-203: "a plan that preparing answers with a k of 1 or more has a walk from a start with a position followed by exactly k-1 legs, all on
+/// the plan, and at least two possible stakes there". Such walks as document 01 writes them, or as its lines give them.
+#[test]
+fn no_leg_held_for_nothing() {
+    let rows: [WalkInDoubt; 4] = [
+        // three legs 00, "open 3 stakes 1 2"; 2 has no line
+        ("A", &[0, 0, 0], 3, &[1, 2], &[Some(1)]),
+        // "Walk 0 1: {0,1}, {2}, {3}."; 3 has no line
+        ("C", &[0, 1], 0, &[0, 1], &[None, None]),
+        // "the empty walk has {0,1}"
+        ("F", &[], 0, &[0, 1], &[None]),
+        // from 0 by 0-0-1 and 1-1-0, and then with code 0 alone; from 1 by 1-0-2 and 2-1-2, and then with code 1 alone
+        ("G", &[0, 1], 0, &[0, 1], &[Some(0), Some(1)]),
+    ];
+    let listed = listed();
+    for calls in common::everyone() {
+        for (name, walk, position, stakes, left) in rows {
+            let (_, plan, _) = listed.iter().find(|row| row.0 == name).expect("is listed");
+            let (k, table) = prepared(calls, plan).expect("a k");
+            assert_eq!(walk.len() - position, k as usize - 1, "{name} by {}", calls.name());
+            let sets = walked(calls, &table, walk);
+            assert_eq!((sets.len(), sets[position]), (walk.len() + 1, set(stakes)), "{name} by {}", calls.name());
+            assert_eq!(left.len(), plan.m);
+            for (code, left) in left.iter().enumerate() {
+                let sets = walked(calls, &table, &[walk, &[code as u8]].concat());
+                let legs = walk.len() + left.is_some() as usize;
+                let stakes = left.map_or(set(stakes), |stake| set(&[stake]));
+                assert_eq!((sets.len(), sets[position]), (legs + 1, stakes), "{name} and {code} by {}", calls.name());
+            }
+        }
+        // D, whose fork no walk reaches: one stake at every position
+        let (_, table) = prepared(calls, &plan_d()).expect("k 0");
+        assert_eq!(walked(calls, &table, &[0; 20]), [set(&[0]); 21]);
+        // B and H, refused with 15: in doubt however many legs are behind, at position 1 and at 0. Their tables by hand.
+        let b = [2, 1, 0, set(&[0]), set(&[0, 1]), set(&[1])];
+        let h = [4, 2, 0, set(&[0, 1]), set(&[2]), 0, set(&[2]), 0, 0, set(&[3]), 0, set(&[3])];
+        for legs in 0..20 {
+            let sets = walked(calls, &b, &vec![0; legs + 1]);
+            assert_eq!((sets.len(), sets[1]), (legs + 2, set(&[0, 1])), "B by {}", calls.name());
+            let sets = walked(calls, &h, &(0..legs).map(|leg| (leg > 0) as u8).collect::<Vec<_>>());
+            assert_eq!((sets.len(), sets[0]), (legs + 1, set(&[0, 1])), "H by {}", calls.name());
+        }
+    }
+    // and the reference finds one for each number of legs below k, or for every number under 15
+    for (name, plan, expected) in &listed {
+        let plan = read(&plan.bytes()).expect("sound").plan;
+        for legs in 0..20 {
+            assert_eq!(in_doubt(&plan, legs, &mut |_| 0).is_some(), expected.map_or(true, |k| legs < k as usize), "{name}, {legs} legs");
+        }
     }
 }
 

@@ -4,7 +4,7 @@ use super::Random;
 use crate::forms::MAX_STAKES;
 use crate::reference::plan::Plan;
 use crate::reference::size;
-use crate::reference::walk::step;
+use crate::reference::walk::{reach, step};
 
 /// The codes that can be walked from a set.
 pub fn ways(plan: &Plan, set: &[bool]) -> Vec<u8> {
@@ -37,6 +37,22 @@ pub fn word(r: &mut Random, plan: &Plan, from: &[bool], length: usize) -> Vec<u8
         set = next;
     }
     word
+}
+
+/// A walk on the plan, with up to so many legs more that can be walked too.
+pub fn further(r: &mut Random, plan: &Plan, walk: &[u8], legs: usize) -> Vec<u8> {
+    let mut walk = walk.to_vec();
+    let mut set = reach(plan, &plan.starts, &walk);
+    for _ in 0..legs {
+        let ways = ways(plan, &set);
+        if ways.is_empty() {
+            break;
+        }
+        let code = r.pick(&ways);
+        set = step(plan, &set, code);
+        walk.push(code);
+    }
+    walk
 }
 
 /// Legs offered one after the other: refused ones (a stray code, a code off the plan) among those that can be walked.

@@ -76,6 +76,14 @@ impl Pairs {
         self.marks[s * self.n + t] = Mark::Known(longest);
         longest
     }
+
+    /// Whether both stakes can walk one word of so many codes: the beginnings of a shared word are shared.
+    pub fn share(&mut self, s: usize, t: usize, codes: usize) -> bool {
+        match self.longest(s, t) {
+            Shared::Endless => true,
+            Shared::Codes(longest) => longest >= codes,
+        }
+    }
 }
 
 /// k: the least number for which no two different stakes of one critical set share a word of k codes; none if there is no such number.

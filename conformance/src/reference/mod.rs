@@ -1,8 +1,9 @@
-//! The reference: documents 01 and 02 and the paper (003) in the plainest Rust. A set is a vector of booleans, a plan the list of its lines,
-//! a refusal is given where its sentence stands. Nothing here is fast, and nothing here calls the library.
+//! The reference: documents 01 and 02 and the paper (003) in the plainest Rust. A set is a vector of booleans, a plan the list of its
+//! lines, a refusal is given where its sentence stands. Nothing here is fast, and nothing here calls the library.
 
 pub mod calls;
 pub mod claim;
+pub mod doubt;
 mod forms;
 pub mod lookahead;
 pub mod plan;
