@@ -65,11 +65,10 @@ fault "in doubt: one leg short" doubt.rs '(0..legs).rev()' '(FAULT as usize..leg
 fault "in doubt: with the legs before and not behind" doubt.rs 'Some((walk, position))' 'Some((walk, if FAULT { legs } else { position }))'
 fault "in doubt: between a stake and itself" doubt.rs 'x != y &&' '(FAULT || x != y) &&'
 fault "in doubt: a walk from any stake" doubt.rs 'members(&plan.starts)' 'if FAULT { (0..plan.n).collect() } else { members(&plan.starts) }'
-fault "in doubt: two stakes by two words" doubt.rs 'members(&plan.starts)' 'if FAULT { members(&plan.reached()) } else { members(&plan.starts) }'
-fault "in doubt: behind forks that no walk reaches" doubt.rs 'let mut done = Vec::new();' 'let mut done = Vec::new(); if FAULT { to_do.extend((0..plan.n).map(|s| (s, s, vec![]))); }'
+fault "in doubt: behind forks that no walk reaches" doubt.rs 'let mut done = Vec::new();' 'let mut done = Vec::new(); if FAULT { let reached = plan.reached(); to_do.extend((0..plan.n).filter(|&s| !reached[s]).map(|s| (s, s, vec![]))); }'
 fault "in doubt: at the starts alone" doubt.rs 'for (code, x, y) in pairs.edges(s, t) {' 'for (code, x, y) in pairs.edges(s, t) { if FAULT { break; }'
 fault "in doubt: two starts only" doubt.rs 'if s <= t {' 'if s < t || (s == t && !FAULT) {'
-fault "in doubt: not behind where two stakes meet" doubt.rs 'if !seen[x * plan.n + y] {' 'if !seen[x * plan.n + y] && !(FAULT && x == y) {'
+fault "in doubt: at the starts and their own forks alone" doubt.rs 'if !seen[x * plan.n + y] {' 'if !seen[x * plan.n + y] && !(FAULT && x == y) {'
 fault "in doubt: not under 15" lookahead.rs 'Shared::Endless => true' 'Shared::Endless => !FAULT'
 # which evidence is given is free, so the library's is not compared with the reference's: each is checked by itself
 kind=evidence

@@ -1,5 +1,6 @@
 //! Waiting (W-203, "No leg held for nothing"): the k that preparing answers is the least. The reference finds a walk with a position in
-//! doubt and exactly k-1 legs behind it, and none with k; the subject's whole walks, by the table that it made itself, must show the same.
+//! doubt and exactly k-1 legs behind it, and none with k; the subject's whole walks, by the table that it made itself (under 15, where it
+//! makes none, by the reference's), must show the same.
 
 use crate::calls::Calls;
 use crate::cases::show_reply;
@@ -114,8 +115,8 @@ impl Waiting {
         Ok(met)
     }
 
-    /// 15: whatever the number of legs is, some position is in doubt with so many behind it. Two numbers are tried, a small one and one that
-    /// is at least as large as any k can be.
+    /// 15: whatever the number of legs is, some position is in doubt with so many behind it. Two numbers are tried: a small one, and one at
+    /// least as large as any k can be.
     fn without_count(&self, subject: &dyn Calls, plan: &Plan) -> Result<Vec<String>, String> {
         let mut r = Random::new(self.seed, 0);
         // preparing made no table, and a whole walk does not depend on the table's k

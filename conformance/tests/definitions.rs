@@ -141,7 +141,7 @@ fn the_count_is_the_least_number_of_legs_without_doubt() {
             None => none += 1,
         }
     }
-    println!("tiny plans in doubt for up to 0, 1, .. legs: {found:?}; for any number: {none}; behind the first position: {later}");
+    println!("tiny plans in doubt for fewer than 0, 1, .. legs: {found:?}; for any number: {none}; behind the first position: {later}");
     assert!(none > 100 && later > 500 && found[..4].iter().all(|&count| count > 20) && found[4] > 0);
 }
 

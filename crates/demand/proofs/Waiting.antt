@@ -13,7 +13,7 @@ use Rattle.semiautomata.specs.Semiautomaton.{Semiautomaton, Within}
 use Rattle.semiautomata.specs.Predictability.{Lookahead}
 use Rattle.semiautomata.specs.Walks.{PossibleAt, Only}
 use Rattle.semiautomata.proofs.Positions.{single-is, single-in, possible-lt, only-longest}
-use Rattle.semiautomata.proofs.Waiting.{none-for-nothing, predictable-decides}
+use Rattle.semiautomata.proofs.Waiting.{none-for-nothing, predictable-certain}
 use Rattle.table.specs.Table.{tableMeaning, unfit}
 use Rattle.table.proofs.Fitness.{fitting}
 use Rattle.simulate.specs.declared.Walked.the-variants.{Upto}
@@ -58,5 +58,5 @@ module _ (table : List ℕ) (fit : unfit table ≡ false) (k : ℕ) (l : Lookahe
       → (i : ℕ) → i + k ≤ g → (x : ℕ) × (getD out i 0 ≡ 2 ^ x)
   one-shown word g old out c i h =
       let (long, stand, _, _) = walked table word g old out c in
-      let (x, one) = predictable-decides S k (l .enough) (take g word) i (long .walked) (rw (length-take-le g word (long .fits)) h) in
+      let (x, one) = predictable-certain S k (l .enough) (take g word) i (long .walked) (rw (length-take-le g word (long .fits)) h) in
       (x, alone word i x (only-longest S word g long i x (omega arith) one) (stand i (omega arith)))

@@ -13,7 +13,7 @@ use Rattle.semiautomata.specs.Semiautomaton.{Semiautomaton, Within, Path
 use Rattle.semiautomata.specs.Predictability.{Critical, initial, fork, member, Counts, Clash, SomeClash, Predictable}
 use Rattle.semiautomata.specs.Predictability.{Lookahead, Unpredictable}
 use Rattle.semiautomata.specs.Walks.{Possible}
-use Rattle.semiautomata.specs.Waiting.{InDoubt, Decides, LeastWait}
+use Rattle.semiautomata.specs.Waiting.{InDoubt, Certain, LeastWait}
 use Rattle.semiautomata.proofs.Paths.{path-join, initial-accessible}
 use Rattle.semiautomata.proofs.Access.{accessible-short}
 use Rattle.semiautomata.proofs.Decide.{clash-else, least-such}
@@ -63,18 +63,18 @@ module _ (S : Semiautomaton) where
   clash-doubt : (j : ℕ) → SomeClash S j → InDoubt S j
   clash-doubt j (T, c, h) = clash-walk j T c h .0
 
-  doubt-undecided : (j : ℕ) → InDoubt S j → ¬ Decides S j
-  doubt-undecided j d decides =
-      let (_, o) = decides (d .word) (d .position) (d .on-plan) (omega (arith, d .later)) in
+  doubt-uncertain : (j : ℕ) → InDoubt S j → ¬ Certain S j
+  doubt-uncertain j d certain =
+      let (_, o) = certain (d .word) (d .position) (d .on-plan) (omega (arith, d .later)) in
       let t = d .two in
       t .differ (o .only (t .x) (t .one) ∙ sym (o .only (t .y) (t .other)))
 
   -- no doubt, no clash
-  certain-predictable : (j : ℕ) → ¬ InDoubt S j → Predictable S j
-  certain-predictable j certain T c h = certain (clash-doubt j (T, c, h))
+  undoubted-predictable : (j : ℕ) → ¬ InDoubt S j → Predictable S j
+  undoubted-predictable j none T c h = none (clash-doubt j (T, c, h))
 
-  pub predictable-decides : (k : ℕ) → Predictable S k → Decides S k
-  predictable-decides k P w i o h =
+  pub predictable-certain : (k : ℕ) → Predictable S k → Certain S k
+  predictable-certain k P w i o h =
       let (x, c) = some-possible S (S .initial) w i o in (
         x,
         record {
@@ -83,8 +83,8 @@ module _ (S : Semiautomaton) where
         },
       )
 
-  pub decides-is : (j : ℕ) → Decides S j ↔ ¬ InDoubt S j
-  decides-is j = (λ s d. doubt-undecided j d s, λ certain. predictable-decides j (certain-predictable j certain))
+  pub certain-is : (j : ℕ) → Certain S j ↔ ¬ InDoubt S j
+  certain-is j = (λ s d. doubt-uncertain j d s, λ none. predictable-certain j (undoubted-predictable j none))
 
   module _ (W : Within S) where
     -- n + 1 letters are enough to come to a set that counts
@@ -102,10 +102,10 @@ module _ (S : Semiautomaton) where
         (d, omega (arith, long, short, h))
 
     pub doubt-is : (j : ℕ) → InDoubt S j ↔ SomeClash S j
-    doubt-is j = (λ d. clash-else S W j (λ P. doubt-undecided j d (predictable-decides j P)), clash-doubt j)
+    doubt-is j = (λ d. clash-else S W j (λ P. doubt-uncertain j d (predictable-certain j P)), clash-doubt j)
 
     pub least-wait : (k : ℕ) → Lookahead S k ↔ LeastWait S k
-    least-wait = least-such S W (Decides S) (λ j. (predictable-decides j, λ s. certain-predictable j (decides-is j .0 s)))
+    least-wait = least-such S W (Certain S) (λ j. (predictable-certain j, λ s. undoubted-predictable j (certain-is j .0 s)))
 
     pub endless-doubt : Unpredictable S ↔ ((j : ℕ) → InDoubt S j)
-    endless-doubt = (λ u j. doubt-is j .1 (clash-else S W j (u j)), λ d k P. doubt-undecided k (d k) (predictable-decides k P))
+    endless-doubt = (λ u j. doubt-is j .1 (clash-else S W j (u j)), λ d k P. doubt-uncertain k (d k) (predictable-certain k P))

@@ -13,7 +13,7 @@ use Rattle.semiautomata.specs.Access.{accessible, trim}
 use Rattle.semiautomata.specs.Wide.{LookaheadWide, UnpredictableWide}
 use Rattle.semiautomata.specs.Levels.{live, counts, clashIn, clash, Repeats}
 use Rattle.semiautomata.specs.Walks.{Walkable, OnPlan, Longest, Possible, PossibleAt, spells, survivors, walkable, possible, longest}
-use Rattle.semiautomata.specs.Waiting.{InDoubt, Decides, LeastWait}
+use Rattle.semiautomata.specs.Waiting.{InDoubt, Certain, LeastWait}
 use Rattle.semiautomata.specs.Selectors.{Survives, Selector, MinimalSelector, MaximalNonselector, selector, minimalSelector}
 use Rattle.semiautomata.specs.Selectors.{maximalNonselector}
 
@@ -83,13 +83,13 @@ pub record Theorems (S : Semiautomaton) : Type 0 where
   -- no letter is waited for in vain: where the look-ahead k is 1 or more, a word of at most n + k letters has a position in doubt that
   -- k - 1 letters follow
   pub none-for-nothing : Within S → (k : ℕ) → 1 ≤ k → Lookahead S k → (d : InDoubt S (k - 1)) × (length (d .word) ≤ S .n + k)
-  -- the look-ahead is the least number of letters that decide every position, and where there is none, any number of letters leaves some
-  -- position in doubt
+  -- the look-ahead is the least number of letters that make every position certain, and where there is none, any number of letters leaves
+  -- some position in doubt
   pub least-wait : Within S → (k : ℕ) → Lookahead S k ↔ LeastWait S k
   pub endless-doubt : Within S → Unpredictable S ↔ ((j : ℕ) → InDoubt S j)
-  -- j letters decide every position exactly if they leave none in doubt, and they leave one in doubt exactly if two different states of a
-  -- critical set that counts share a word of j letters
-  pub decides-is : (j : ℕ) → Decides S j ↔ ¬ InDoubt S j
+  -- j letters make every position certain exactly if they leave none in doubt, and they leave one in doubt exactly if two different states
+  -- of a critical set that counts share a word of j letters
+  pub certain-is : (j : ℕ) → Certain S j ↔ ¬ InDoubt S j
   pub doubt-is : Within S → (j : ℕ) → InDoubt S j ↔ SomeClash S j
   -- VERDICTS, for any set of states: the tests that compute say what they mean
   pub survivors-is : Within S → (X : ℕ → Bool) → Below S X → (w : List ℕ) (t : ℕ) → (survivors S X w t ≡ true) ↔ Survives S X w t

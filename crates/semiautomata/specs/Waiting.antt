@@ -1,4 +1,4 @@
--- Waiting (W-203): how many later letters settle a position, said of walks alone and of no critical set.
+-- Waiting (W-203): how many later letters make a position certain, said of walks alone and of no critical set.
 -- Assumes nothing.
 use Prim.Native.Nat.{ℕ, _+_, _≤_}
 use mathlib.Core.Path.{_≡_}
@@ -18,9 +18,9 @@ pub record InDoubt (S : Semiautomaton) (j : ℕ) : Type 0 where
   pub two : TwoSuch (PossibleAt S word position)
 
 -- Every position of every word on the plan that j or more letters follow has exactly one possible state.
-abbrev pub Decides : Semiautomaton → ℕ → Type 0
-Decides S j = (w : List ℕ) (i : ℕ) → OnPlan S w → i + j ≤ length w → (x : ℕ) × Only S w i x
+abbrev pub Certain : Semiautomaton → ℕ → Type 0
+Certain S j = (w : List ℕ) (i : ℕ) → OnPlan S w → i + j ≤ length w → (x : ℕ) × Only S w i x
 
--- The least number of letters that decide so.
+-- The least number of letters that make every position certain.
 abbrev pub LeastWait : Semiautomaton → ℕ → Type 0
-LeastWait S = LeastSuch (Decides S)
+LeastWait S = LeastSuch (Certain S)
