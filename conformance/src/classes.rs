@@ -270,7 +270,7 @@ const CLASSES: &[(&str, &[&[&str]])] = &[
     ("waiting", &[COUNT, &["no starts", "k 0, 15 if every set counted", "15"]]),
     ("waiting in doubt", &[&["at position 0", "at a later position", "between three or more stakes", "until the next leg"]]),
     ("waiting in doubt,", &[&["though a later position has one stake", "a larger k if every set counted", "15 if every set counted"]]),
-    ("waiting with a position decided,", &[COUNT]),
+    ("waiting with a position certain,", &[COUNT]),
 ];
 
 /// Every class that a run must meet.

@@ -50,7 +50,7 @@ fn doubted(subject: &dyn Calls, table: &[u64], plan: &Plan, legs: usize, r: &mut
 }
 
 /// That each position followed by k or more legs has one possible stake, by the subject.
-fn decided(subject: &dyn Calls, table: &[u64], k: usize, walk: &[u8]) -> Result<(), String> {
+fn certain(subject: &dyn Calls, table: &[u64], k: usize, walk: &[u8]) -> Result<(), String> {
     for (position, set) in walked(subject, table, walk)?.into_iter().enumerate() {
         if position + k <= walk.len() && set.count_ones() != 1 {
             let stakes = hex(&[set]);
@@ -98,7 +98,7 @@ impl Waiting {
             note("in doubt, 15 if every set counted", all.is_none());
             // with one leg more the doubt is gone
             let longer = further(&mut r, plan, &walk, k + self.beyond);
-            decided(subject, table, k, &longer)?;
+            certain(subject, table, k, &longer)?;
             note("in doubt until the next leg", longer.len() > walk.len());
         }
         // over all walks; a plan without starts has none
@@ -110,8 +110,8 @@ impl Waiting {
             return Ok(met);
         }
         let walk = further(&mut r, plan, &[], k + self.beyond);
-        decided(subject, table, k, &walk)?;
-        note(&format!("with a position decided, {class}"), walk.len() >= k);
+        certain(subject, table, k, &walk)?;
+        note(&format!("with a position certain, {class}"), walk.len() >= k);
         Ok(met)
     }
 
