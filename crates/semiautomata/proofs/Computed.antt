@@ -12,7 +12,7 @@ use Rattle.bitset.specs.Sets.{any}
 use Rattle.bitset.proofs.Tests.{and-in, decided, same-test}
 use Rattle.bitset.proofs.Below.{any-in, with-any}
 use Rattle.semiautomata.specs.Semiautomaton.{Semiautomaton, Within, Path, Spells}
-use Rattle.semiautomata.specs.Walks.{Walkable, Longest, Possible, spells, step, reach, walkable, possible, greatest, longest}
+use Rattle.semiautomata.specs.Walks.{Walkable, LedTo, Longest, Possible, spells, step, reach, walkable, possible, greatest, longest}
 use Rattle.semiautomata.proofs.Paths.{path-lt, spells-cons}
 use Rattle.semiautomata.proofs.Levels.{with-and}
 
@@ -32,6 +32,9 @@ module _ (S : Semiautomaton) where
       let (r, h, p) = reach-out (step S X a) w t e in
       let (s, h, e) = step-out X a r h in
       (s, h, (r, e, p))
+
+  pub led-out : (X : ℕ → Bool) (w : List ℕ) (t : ℕ) → reach S X w t ≡ true → LedTo S X w t
+  led-out X w t e = let (s, h, p) = reach-out X w t e in record { start = s; from-it = h; path = p }
 
   pub walkable-out : (X : ℕ → Bool) (w : List ℕ) → walkable S X w ≡ true → Walkable S X w
   unfolding walkable
@@ -58,6 +61,9 @@ module _ (S : Semiautomaton) where
     pub reach-in : (X : ℕ → Bool) (w : List ℕ) (s t : ℕ) → X s ≡ true → Path S s w t → reach S X w t ≡ true
     reach-in X [] s t h p = rw p at h
     reach-in X (a ∷ w) s t h (r, e, p) = reach-in (step S X a) w r t (step-in X a s r h e) p
+
+    pub led-in : (X : ℕ → Bool) (w : List ℕ) (t : ℕ) → LedTo S X w t → reach S X w t ≡ true
+    led-in X w t c = reach-in X w (c .start) t (c .from-it) (c .path)
 
     pub possible-in : (X : ℕ → Bool) (w : List ℕ) (i x : ℕ) → Possible S X w i x → possible S X w i x ≡ true
     unfolding possible

@@ -45,6 +45,7 @@ theorems S = record {
   level-stays = levels.live-fixed S;
   level-endless = λ W j r e. decide.fixed-endless S W j r (decide.clash-out S j e);
   spells-is = λ W w s. (computed.spells-out S w s, computed.spells-in S W w s);
+  reach-is = λ W X w t. (computed.led-out S X w t, computed.led-in S W X w t);
   walkable-is = λ W X below w. (computed.walkable-out S X w, computed.walkable-in S W X below w);
   possible-is = λ W X w i x. (computed.possible-out S X w i x, computed.possible-in S W X w i x);
   longest-unique = computed.longest-unique S;

@@ -12,7 +12,8 @@ use Rattle.semiautomata.specs.Predictability.{Unpredictable, Claim, Witn
 use Rattle.semiautomata.specs.Access.{accessible, trim}
 use Rattle.semiautomata.specs.Wide.{LookaheadWide, UnpredictableWide}
 use Rattle.semiautomata.specs.Levels.{live, counts, clashIn, clash, Repeats}
-use Rattle.semiautomata.specs.Walks.{Walkable, OnPlan, Longest, Possible, PossibleAt, spells, survivors, walkable, possible, longest}
+use Rattle.semiautomata.specs.Walks.{Walkable, OnPlan, LedTo, Longest, Possible, PossibleAt, spells, reach, survivors, walkable}
+use Rattle.semiautomata.specs.Walks.{possible, longest}
 use Rattle.semiautomata.specs.Waiting.{InDoubt, Certain, LeastWait}
 use Rattle.semiautomata.specs.Selectors.{Survives, Selector, MinimalSelector, MaximalNonselector, selector, minimalSelector}
 use Rattle.semiautomata.specs.Selectors.{maximalNonselector}
@@ -69,6 +70,7 @@ pub record Theorems (S : Semiautomaton) : Type 0 where
   -- WALKS
   -- the tests that compute say what they mean
   pub spells-is : Within S → (w : List ℕ) (s : ℕ) → (spells S w s ≡ true) ↔ Spells S s w
+  pub reach-is : Within S → (X : ℕ → Bool) (w : List ℕ) (t : ℕ) → (reach S X w t ≡ true) ↔ LedTo S X w t
   pub walkable-is : Within S → (X : ℕ → Bool) → Below S X → (w : List ℕ) → (walkable S X w ≡ true) ↔ Walkable S X w
   pub possible-is : Within S → (X : ℕ → Bool) (w : List ℕ) (i x : ℕ) → (possible S X w i x ≡ true) ↔ Possible S X w i x
   -- there is one longest beginning on the plan where there is an initial state

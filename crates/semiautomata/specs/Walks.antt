@@ -19,6 +19,12 @@ pub record Walkable (S : Semiautomaton) (X : ℕ → Bool) (w : List ℕ) : Type
 abbrev pub OnPlan : Semiautomaton → List ℕ → Type 0
 OnPlan S w = Walkable S (S .initial) w
 
+-- The word leads to t from some state of the set X.
+pub record LedTo (S : Semiautomaton) (X : ℕ → Bool) (w : List ℕ) (t : ℕ) : Type 0 where
+  pub start : ℕ
+  pub from-it : X start ≡ true
+  pub path : Path S start w t
+
 -- g is the length of the longest beginning of w that is on the plan.
 pub record Longest (S : Semiautomaton) (w : List ℕ) (g : ℕ) : Type 0 where
   pub fits : g ≤ length w
