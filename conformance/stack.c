@@ -29,6 +29,7 @@ static uint64_t sets[5001];
 static uint64_t length[1];
 static uint8_t rec[GAWHERINO_MAX_RECORD];
 static uint32_t position[1];
+static uint64_t set, next[1];
 static uint32_t state, letter, answer;
 
 /* Each call: its name, in capitals too, its parameters, and what it is lent here. */
@@ -42,6 +43,7 @@ static uint32_t state, letter, answer;
     X(check, CHECK, (const uint8_t *a, size_t b, const uint32_t *c, size_t d, const uint8_t *e, size_t f), \
       (plan, plan_len, evidence, GAWHERINO_EVIDENCE, letters, letters_len)) \
     X(write, WRITE, (const uint8_t *a, size_t b, uint8_t *c, size_t d), (plan, plan_len, out, out_len)) \
+    X(step, STEP, (const uint64_t *a, size_t b, uint64_t c, uint32_t d, uint64_t *e, size_t f), (table, table_len, set, letter, next, 1)) \
     X(walk, WALK, (const uint64_t *a, size_t b, const uint8_t *c, size_t d, uint64_t *e, size_t f, uint64_t *g, size_t h), \
       (table, table_len, word, word_len, sets, word_len + 1, length, 1)) \
     X(judge, JUDGE, (const uint64_t *a, size_t b, uint32_t c, uint32_t d, const uint8_t *e, size_t f, uint64_t *g, size_t h), \
@@ -324,6 +326,16 @@ static void on_this_plan(uint32_t expected, size_t legs)
     measure(WALK);
     word[word_len++] = 0;
     measure(WALK);
+    /* steps: along the walk; from no stake, from all and from 64, which are too many on most plans; by a code that is not the plan's */
+    for (i = 0, set = table[3]; i < word_len; i++, set = next[0]) {
+        letter = word[i];
+        measure(STEP);
+    }
+    for (i = 0; i < 4; i++) {
+        set = i == 0 ? 0 : UINT64_MAX >> (i == 2 ? 0 : 64 - n);
+        letter = i == 3 ? (uint32_t)table[1] : below((uint32_t)table[1]);
+        measure(STEP);
+    }
     word_len = word_len > 20 ? 20 : word_len;
     for (i = 0; i < 40; i++) {
         state = i == 0 ? GAWHERINO_STARTS : below(n + 1);
@@ -340,6 +352,7 @@ static void on_this_plan(uint32_t expected, size_t legs)
     measure(OPEN);
     measure(FEED);
     measure(FINISH);
+    measure(STEP);
     measure(WALK);
     measure(JUDGE);
 }

@@ -1,4 +1,4 @@
-/* Gawherino for C: every call on plans, tables and records, over plain numbers and lent slices. Version 2.0.1.
+/* Gawherino for C: every call on plans, tables and records, over plain numbers and lent slices. Version 2.1.0.
  *
  * USE. The plan's bytes are in plan; the logger gives one code for each leg. No call allocates, so room is lent:
  *
@@ -44,8 +44,8 @@ extern "C" {
 /* The version of this header. A change of a call's parameters, of what it answers, or of the table's or the record's form raises the first
  * number, a further call the second. */
 #define GAWHERINO_VERSION_MAJOR 2
-#define GAWHERINO_VERSION_MINOR 0
-#define GAWHERINO_VERSION_PATCH 1
+#define GAWHERINO_VERSION_MINOR 1
+#define GAWHERINO_VERSION_PATCH 0
 
 /* ANSWERS */
 
@@ -138,6 +138,7 @@ static inline uint32_t gawherino_refusal(uint32_t answer)
 #define GAWHERINO_STACK_COUNT 40448u
 #define GAWHERINO_STACK_CHECK 16896u
 #define GAWHERINO_STACK_WRITE 16640u
+#define GAWHERINO_STACK_STEP 256u
 #define GAWHERINO_STACK_WALK 256u
 #define GAWHERINO_STACK_JUDGE 512u
 #define GAWHERINO_STACK_OPEN 256u
@@ -197,6 +198,12 @@ uint32_t gawherino_check(const uint8_t *plan, size_t plan_len, const uint32_t *c
 uint32_t gawherino_write(const uint8_t *plan, size_t plan_len, uint8_t *out, size_t out_len);
 
 /* CALLS ON A TABLE */
+
+/* A step by one code from any set of stakes, the empty one too: its rounds, exactly as many as the set has stakes, the lowest first; into
+ * next (1): the stakes that the code leads to from them, 0 if it leads nowhere. Steps along the codes of a walk, the first from the starts
+ * (table[3]) and each other one from the set that the one before gave, give the stakes reached. Refused with 8, 9, 12; 12 if the code is
+ * not below m or the set has a bit n or higher. */
+uint32_t gawherino_step(const uint64_t *table, size_t table_len, uint64_t set, uint32_t letter, uint64_t *next, size_t next_len);
 
 /* A whole walk: 0; into length (1): g; into sets (one more than the word has codes): the possible stakes at 0 to g.
  * Refused with 8, 9, 12, 13. */

@@ -4,7 +4,7 @@
 use crate::cases::Case;
 use crate::families::Draft;
 use crate::forms::plan::length;
-use crate::forms::{evidence, letters, max_look_ahead, record, table, COUNTS, LENGTH, POSITION, REFUSED, STARTS, VERDICT};
+use crate::forms::{evidence, letters, max_look_ahead, record, table, COUNTS, LENGTH, NEXT, POSITION, REFUSED, STARTS, VERDICT};
 use crate::random::{bytes, claims, plans, records, tables, walks, Random};
 use crate::reference::lookahead::look_ahead;
 use crate::reference::plan::{read, Plan, Read};
@@ -89,6 +89,11 @@ fn table_calls(r: &mut Random, table: &[u64], plan: &Plan, k: usize) -> Vec<Case
         Case::walk(table, &word, lend(r, word.len() + 1), lend(r, LENGTH)),
         Case::open(table, lend(r, record::length(k)), lend(r, POSITION)),
     ];
+    for _ in 0..2 {
+        let set = walks::set(r, plan);
+        let code = if r.percent(10) { walks::stray_code(r, plan.m) } else { r.below(plan.m) as u32 };
+        cases.push(Case::step(table, set, code, lend(r, NEXT)));
+    }
     for _ in 0..2 {
         let (state, letter) = set_name(r, plan);
         let set = plan.named(state, letter).unwrap_or(plan.starts.clone());

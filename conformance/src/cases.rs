@@ -61,10 +61,10 @@ impl Call {
         T::slice(&self.given[self.place(name).expect(name)])
     }
 
-    pub fn number(&self, name: &str) -> u32 {
+    pub fn number(&self, name: &str) -> u64 {
         let given = &self.given[self.place(name).expect(name)];
         let &Given::Number(number) = given else { panic!("{given:?} is no number") };
-        number as u32
+        number
     }
 
     /// Writes the beginning of a slice.

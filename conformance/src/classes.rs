@@ -31,6 +31,8 @@ pub fn met(call: &Call, outcome: &Outcome, why: &str) -> Vec<String> {
         ("write", Some(9)) => too_short(call.slice("plan"), outcome.left.slice::<u8>("out").len()),
         ("prepare" | "look_ahead" | "count", None | Some(15)) => narrowed(&plan_given(call), outcome.reply),
         ("check", None) => claimed(&plan_given(call), call.slice("claim"), call.slice("letters")),
+        ("step", None) => stepped(call, outcome.left.slice("next")[0]),
+        ("step", Some(12)) => off_the_plan(call),
         ("judge", None) => judged(call),
         ("feed" | "finish", None | Some(14)) => based(call, outcome.reply),
         _ => vec![],
@@ -125,10 +127,37 @@ fn claimed(plan: &Plan, claim: &[u32], letters: &[u8]) -> Vec<&'static str> {
     ])
 }
 
+/// W-204, of a step: what it was taken from, and what it led to.
+fn stepped(call: &Call, next: u64) -> Vec<&'static str> {
+    let table: &[u64] = call.slice("table");
+    let (set, starts) = (call.number("set"), table[table::STARTS]);
+    let lines = plan_of(table).expect("passes 8").0.lines.swap_remove(call.number("letter") as usize);
+    let taken = lines.iter().filter(|(from, _)| set >> from & 1 == 1).count();
+    applying(&[
+        ("from the starts", set == starts && starts != 0),
+        ("from all of 64 stakes", set == u64::MAX),
+        ("from the last stake", set == 1 << (table[table::N] - 1)),
+        ("to a stake that several stakes lead to", taken > next.count_ones() as usize),
+    ])
+}
+
+/// W-204, of a step that was refused with 12: which of its numbers are off the plan.
+fn off_the_plan(call: &Call) -> Vec<&'static str> {
+    let table: &[u64] = call.slice("table");
+    let (set, code) = (call.number("set"), call.number("letter"));
+    let (bits, is_code) = (set.checked_shr(table[table::N] as u32).unwrap_or(0), code < table[table::M]);
+    applying(&[
+        ("12: the code alone, m itself", bits == 0 && code == table[table::M]),
+        ("12: bit n alone", is_code && set == 1 << table[table::N]),
+        ("12: a stake and bit n", is_code && bits == 1 && set.count_ones() > 1),
+        ("12: a bit above n", is_code && bits & 1 == 0),
+    ])
+}
+
 /// W-202, of a verdict: whether its set counts.
 fn judged(call: &Call) -> Vec<&'static str> {
     let (plan, _) = plan_of(call.slice("table")).expect("passes 8");
-    let (state, letter) = (call.number("state"), call.number("letter"));
+    let (state, letter) = (call.number("state") as u32, call.number("letter") as u32);
     let set = plan.named(state, letter).expect("passes 12");
     applying(&[("a set of several stakes that doesn't count", state != STARTS && !plan.reached()[state as usize] && size(&set) > 1)])
 }
@@ -158,6 +187,13 @@ fn class(Outcome { reply, left }: &Outcome, why: &str) -> String {
         "check" => ["no", "yes"][reply as usize],
         "write" if left.slice::<u8>("plan") == &left.slice::<u8>("out")[..reply as usize] => "in its form already",
         "write" => "put into its form",
+        "step" => match (reply, left.slice::<u64>("next")[0].count_ones()) {
+            (0, _) => "from the empty set",
+            (_, 0) => "to nowhere",
+            (1, _) => "from one stake",
+            (rounds, led_to) if rounds == led_to => "from several stakes to as many",
+            _ => "from several stakes to more or fewer",
+        },
         "walk" => match (left.slice::<u8>("word").len() as u64, left.slice::<u64>("length")[0]) {
             (0, _) => "the empty word",
             (length, g) if g == length => "to its end",
@@ -252,6 +288,11 @@ const CLASSES: &[(&str, &[&[&str]])] = &[
     ("write", &[&["a gap before the parts", "a gap between the parts", "a gap behind the parts"]]),
     ("write", &[&["no starts", "no lines", "neither starts nor lines", "64 starts", "4,096 lines"]]),
     ("write", &[&["room for the form alone", "more room", "less room than the plan has bytes"]]),
+    ("step", &[TABLE, &["9: next", "12: the code not below m", "12: the code above 255", "12: the set's bit n or higher"]]),
+    ("step", &[&["12: the code alone, m itself", "12: bit n alone", "12: a stake and bit n", "12: a bit above n"]]),
+    ("step", &[&["from the empty set", "to nowhere", "from one stake", "from several stakes to as many"]]),
+    ("step", &[&["from several stakes to more or fewer", "from the starts", "from all of 64 stakes", "from the last stake"]]),
+    ("step", &[&["to a stake that several stakes lead to"]]),
     ("walk", &[TABLE, &["9: sets", "9: length", "12: a code of the walk not below m", "13: no starts"]]),
     ("walk", &[&["the empty word", "to its end", "to g below its length"]]),
     ("judge", &[TABLE, &["9: sets", "12: 255 with a code other than 0", "12: the set's name off the plan"]]),

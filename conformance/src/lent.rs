@@ -97,12 +97,6 @@ impl From<usize> for Given {
     }
 }
 
-impl From<u32> for Given {
-    fn from(number: u32) -> Given {
-        Given::Number(number as u64)
-    }
-}
-
 /// A parameter of a call.
 pub struct Parameter {
     pub name: &'static str,
@@ -145,11 +139,23 @@ impl<'a, T: Element> Passed<'a> for &'a mut [T] {
     }
 }
 
-impl Passed<'_> for u32 {
-    const FORM: Parameter = slice_of::<u32>(Kind::Number);
+/// Numbers that are passed as they are.
+macro_rules! numbers {
+    ($($type:ty),*) => {
+        $(impl From<$type> for Given {
+            fn from(number: $type) -> Given {
+                Given::Number(number.into())
+            }
+        }
 
-    fn passed(given: &mut Given) -> u32 {
-        let Given::Number(number) = given else { panic!("{given:?} is no number") };
-        u32::try_from(*number).expect("a number of 32 bits")
-    }
+        impl Passed<'_> for $type {
+            const FORM: Parameter = slice_of::<$type>(Kind::Number);
+
+            fn passed(given: &mut Given) -> $type {
+                let Given::Number(number) = given else { panic!("{given:?} is no number") };
+                (*number).try_into().expect("a number of so many bits")
+            }
+        })*
+    };
 }
+numbers!(u32, u64);

@@ -67,15 +67,22 @@ fn smaller_plans(bytes: &[u8]) -> Vec<Vec<u8>> {
     smaller
 }
 
+/// Smaller sets: the empty one, and all but the lowest stake.
+fn smaller_sets(set: u64) -> Vec<u64> {
+    let mut sets = vec![0, set & set.wrapping_sub(1)];
+    sets.retain(|&fewer| fewer < set);
+    sets
+}
+
 /// Tables with sets emptied or without a bit, or with a smaller k.
 fn smaller_tables(table: &[u64]) -> Vec<Vec<u64>> {
     let mut tables = Vec::new();
     for place in K..table.len() {
         let number = table[place];
-        let fewer = if place == K { [0, number / 2, number.saturating_sub(1)] } else { [0, 0, number & number.wrapping_sub(1)] };
-        for fewer in fewer.into_iter().filter(|&fewer| fewer < number) {
+        let less = if place == K { smaller_numbers(number as usize).map(|k| k as u64).collect() } else { smaller_sets(number) };
+        for less in less {
             let mut other = table.to_vec();
-            other[place] = fewer;
+            other[place] = less;
             tables.push(other);
         }
     }
@@ -93,6 +100,7 @@ fn smaller_given(name: &str, given: &Given) -> Vec<Given> {
         lists.into_iter().map(T::given).collect()
     }
     match (name, given) {
+        ("set", &Given::Number(set)) => smaller_sets(set).into_iter().map(Given::Number).collect(),
         (_, &Given::Room(length)) => smaller_numbers(length).map(Given::Room).collect(),
         ("plan", Given::U8(bytes)) => all(smaller_plans(bytes)),
         ("rec", _) => vec![],

@@ -8,7 +8,7 @@ use conformance::reference::doubt::in_doubt;
 use conformance::reference::lookahead::{least, look_ahead};
 use conformance::reference::plan::{one_form, read, Plan};
 use conformance::reference::record::{feed, Record};
-use conformance::reference::walk::{possible, reach, verdict, whole_walk};
+use conformance::reference::walk::{possible, reach, step_from, verdict, whole_walk};
 use conformance::reference::{members, only, size};
 use std::collections::BTreeSet;
 
@@ -246,6 +246,35 @@ fn possible_stakes_and_verdicts_word_by_word() {
             assert_eq!(size(&possible(&plan, &only, &word)[0]) == 1, walks(&plan, s, &word), "case {number}");
         }
     }
+}
+
+/// W-204 as its sentence has it: "take the lowest member, join what it leads to, strike it out, and go on until the set is empty". From
+/// every set, those with a bit n or n + 1 too, by every code and by m.
+#[test]
+fn a_step_member_by_member() {
+    let (mut nowhere, mut joined) = (0, 0);
+    for (number, _, plan) in tiny_plans(1000) {
+        for (set, code) in (0..1u64 << (plan.n + 2)).flat_map(|set| (0..=plan.m as u32).map(move |code| (set, code))) {
+            let given = step_from(&plan, set, code).map(|(led_to, rounds)| (members(&led_to), rounds)).map_err(|refusal| refusal.number);
+            if code as usize == plan.m || set >= 1 << plan.n {
+                assert_eq!(given, Err(12), "case {number}: {set:b} {code} {plan:?}");
+                continue;
+            }
+            let mut left: BTreeSet<usize> = (0..plan.n).filter(|s| set & (1 << s) != 0).collect();
+            let (mut led_to, mut rounds, mut lines) = (BTreeSet::new(), 0, 0);
+            while let Some(lowest) = left.pop_first() {
+                let ends: Vec<usize> = (0..plan.n).filter(|&end| plan.lines[code as usize].contains(&(lowest, end))).collect();
+                lines += ends.len();
+                led_to.extend(ends);
+                rounds += 1;
+            }
+            nowhere += (rounds > 0 && led_to.is_empty()) as u32;
+            joined += (led_to.len() < lines) as u32;
+            assert_eq!(given, Ok((led_to.into_iter().collect(), rounds)), "case {number}: {set:b} {code} {plan:?}");
+        }
+    }
+    println!("steps that lead nowhere: {nowhere}; to a stake that several stakes lead to: {joined}");
+    assert!(nowhere > 500 && joined > 500);
 }
 
 /// Document 02, W-201: what stands where, and that nothing is left out, added or out of order.

@@ -302,6 +302,88 @@ fn codes_of_32_bits() {
     }
 }
 
+/// A step: the rounds and the set led to, or the refusal; a longer slice keeps its rest, and a refused step writes nothing.
+fn stepped(calls: &dyn Calls, table: &[u64], set: u64, code: u32) -> Result<(u32, u64), u32> {
+    let mut next = pattern::<u64>(NEXT + 1);
+    let reply = calls.step(table, set, code, &mut next);
+    let kept = if reply < REFUSED { NEXT } else { 0 };
+    assert_eq!(next[kept..], pattern::<u64>(NEXT + 1)[kept..], "by {}", calls.name());
+    if reply >= REFUSED {
+        return Err(reply - REFUSED);
+    }
+    Ok((reply, next[0]))
+}
+
+/// W-204 on plan A, from every set of its stakes: what code 0 leads to, in "exactly as many" rounds "as the set has members".
+#[test]
+fn steps_on_plan_a() {
+    for calls in common::everyone() {
+        let (_, table) = prepared(calls, &plan_a()).expect("k 1");
+        let led_to = [0, 0b010, 0b110, 0b110, 0, 0b010, 0b110, 0b110];
+        for (set, led_to) in led_to.into_iter().enumerate() {
+            let rounds = [0, 1, 1, 2, 1, 2, 2, 3][set];
+            assert_eq!(stepped(calls, &table, set as u64, 0), Ok((rounds, led_to)), "from {set:b} by {}", calls.name());
+            // a code not below m, and "a bit n or higher"
+            for stray in [1, 2, 32, 255, 256, 65_536, 1 << 31, u32::MAX] {
+                assert_eq!(stepped(calls, &table, set as u64, stray), Err(12), "{stray} by {}", calls.name());
+            }
+            for bit in 3..MAX_STAKES {
+                assert_eq!(stepped(calls, &table, set as u64 | 1 << bit, 0), Err(12), "bit {bit} by {}", calls.name());
+            }
+        }
+        // 8, then 9, then 12, and the table's numbers past its form are not read
+        let longer = [table.as_slice(), &[u64::MAX]].concat();
+        assert_eq!(stepped(calls, &longer, 0b011, 0), Ok((2, 0b110)));
+        assert_eq!(calls.step(&table, 0b011, 0, &mut []), REFUSED + 9);
+        assert_eq!(calls.step(&table, 0b1000, 1, &mut []), REFUSED + 9);
+        assert_eq!(calls.step(&table[..6], 0b1000, 1, &mut []), REFUSED + 8);
+        assert_eq!(stepped(calls, &table[..6], 0b1000, 1), Err(8));
+    }
+}
+
+/// Steps at the greatest sizes: with 64 stakes no bit is too high, and the rounds are 0 to 64.
+#[test]
+fn steps_of_64_stakes() {
+    let lines: Vec<Line> = (0..64).map(|stake| (stake, 31, 63 - stake)).collect();
+    let plan = draft(64, 32, &[0], &lines);
+    for calls in common::everyone() {
+        let (_, table) = prepared(calls, &plan).expect("k 0");
+        for set in [u64::MAX, u64::MAX - 1, 1 << 63, 1, u64::MAX >> 1, 0x0123_4567_89AB_CDEF] {
+            assert_eq!(stepped(calls, &table, set, 31), Ok((set.count_ones(), set.reverse_bits())), "{set:x} by {}", calls.name());
+            assert_eq!(stepped(calls, &table, set, 30), Ok((set.count_ones(), 0)), "{set:x} by {}", calls.name());
+            assert_eq!(stepped(calls, &table, set, 32), Err(12), "{set:x} by {}", calls.name());
+        }
+    }
+}
+
+/// Steps along a word from the starts give the stakes reached: a whole walk goes on as long as they lead anywhere, and ends in the last of
+/// their sets. Every word of up to five codes on the listed plans that have a start, those without a k too.
+#[test]
+fn steps_along_a_whole_walk() {
+    for calls in common::everyone() {
+        let (mut to_the_end, mut shorter) = (0, 0);
+        for (name, plan, _) in listed().into_iter().filter(|(_, plan, _)| !plan.starts.is_empty()) {
+            let table = conformance::reference::table::table_of(&read(&plan.bytes()).expect("sound").plan, 0);
+            for word in (0..1u32 << 5).map(|bits| (0..5).map(|i| (bits >> i) as u8 % 2 % plan.m as u8).collect::<Vec<u8>>()) {
+                for end in 0..=word.len() {
+                    let mut sets = vec![table[table::STARTS]];
+                    for &code in &word[..end] {
+                        let set = sets[sets.len() - 1];
+                        let (rounds, next) = stepped(calls, &table, set, code as u32).expect("on the plan");
+                        assert_eq!(rounds, set.count_ones(), "{name} by {}", calls.name());
+                        sets.push(next);
+                    }
+                    let walk = walked(calls, &table, &word[..end]);
+                    let g = sets.iter().rposition(|&set| set != 0).expect("there are starts");
+                    assert_eq!((walk.len() - 1, walk[g]), (g, sets[g]), "{name}, {:?} by {}", &word[..end], calls.name());
+                    *(if g == end { &mut to_the_end } else { &mut shorter }) += 1;
+                }
+            }
+        }
+        assert!(to_the_end > 300 && shorter > 300, "{to_the_end} to the end, {shorter} shorter");
+    }
+}
+
 #[test]
 fn traps_of_document_01() {
     // a loop that exchanges the two stakes still means 15

@@ -3,7 +3,7 @@
 use conformance::calls::Calls;
 use conformance::families::{draft, ladder, odometer, Draft, Line};
 use conformance::forms::{evidence, letters, plan, record, table};
-use conformance::forms::{COUNTS, LENGTH, MAX_CODES, MAX_LINES, MAX_STAKES, POSITION, REFUSED};
+use conformance::forms::{COUNTS, LENGTH, MAX_CODES, MAX_LINES, MAX_STAKES, NEXT, POSITION, REFUSED};
 use conformance::library::Library;
 use conformance::plain::Plain;
 use conformance::random::Random;
@@ -170,7 +170,8 @@ fn main() {
     println!("Processor time for one operation: the median of {SAMPLES} samples of some 20 ms ({FEW_SAMPLES} where one operation takes");
     println!("longer), taken of both sides in turn, with the quartiles. The timed part is the calls alone, each with all its checks:");
     println!("from plan bytes for read, write, count (gawherino_look_ahead) and prepare; from a table for a leg (8 on the whole table");
-    println!("each time) and a whole walk. A leg's time is that of opening and all legs (20,000 to 1,000,000), divided by their number.");
+    println!("each time), a whole walk and a step (8 on the whole table too). A leg's time is that of opening and all legs (20,000 to");
+    println!("1,000,000), divided by their number; a step's that of one by each code, divided by theirs.");
     println!();
     println!("| what | library | plain Rust | plain / library |");
     println!("|---|---|---|---|");
@@ -284,5 +285,22 @@ fn main() {
         row(&format!("whole walk, a leg, {name}"), word.len(), &|calls| {
             black_box(calls.walk(black_box(&table), &word, &mut sets.borrow_mut(), &mut [0; LENGTH]));
         });
+    }
+    for (name, plan, _) in [&walks[2], &walks[0], &walks[1]] {
+        let table = table_of(plan);
+        let all = u64::MAX >> (MAX_STAKES - plan.n);
+        for (from, set) in [("one stake", 1), ("all stakes", all)] {
+            let step = |calls: &dyn Calls| {
+                (0..plan.m as u32).fold(0u64, |sum, code| {
+                    let mut next = [0; NEXT];
+                    let rounds = calls.step(black_box(&table), set, code, &mut next);
+                    sum.wrapping_mul(31).wrapping_add(next[0]).wrapping_add(rounds as u64)
+                })
+            };
+            agreed(&|calls| step(calls) as u32);
+            row(&format!("step, from {from}, {name}"), plan.m, &|calls| {
+                black_box(step(calls));
+            });
+        }
     }
 }

@@ -3,8 +3,8 @@
 use super::Random;
 use crate::forms::MAX_STAKES;
 use crate::reference::plan::Plan;
-use crate::reference::size;
 use crate::reference::walk::{reach, step};
+use crate::reference::{size, to_number};
 
 /// The codes that can be walked from a set.
 pub fn ways(plan: &Plan, set: &[bool]) -> Vec<u8> {
@@ -78,6 +78,23 @@ pub fn legs(r: &mut Random, plan: &Plan, length: usize) -> Vec<u8> {
         }
     }
     legs
+}
+
+/// A set to step from: what a walk leads to, one stake, any, all or none; now and then with a bit that is no stake's.
+pub fn set(r: &mut Random, plan: &Plan) -> u64 {
+    let length = r.below(6);
+    let walk = further(r, plan, &[], length);
+    let reached = to_number(&reach(plan, &plan.starts, &walk));
+    let all = u64::MAX >> (MAX_STAKES - plan.n);
+    let (one, last) = (1 << r.below(plan.n), 1 << (plan.n - 1));
+    let any = r.next() & all;
+    let few = any & r.next() & r.next();
+    let set = r.pick(&[reached, reached, any, few, one, last, all, 0]);
+    if plan.n == MAX_STAKES || !r.percent(10) {
+        return set;
+    }
+    let (first, other) = (1 << plan.n, 1 << r.among(plan.n, MAX_STAKES - 1));
+    r.pick(&[first, set | first, set | other, 1 << (MAX_STAKES - 1), u64::MAX])
 }
 
 /// A code that is none of the plan's: from m on, and those of which a part of the bits would be one.

@@ -94,6 +94,14 @@ fn write(plan: &[u8], out: &mut [u8]) -> Result<u32, Refusal> {
     Ok(form.len() as u32)
 }
 
+fn step(table: &[u64], set: u64, letter: u32, next: &mut [u64]) -> Result<u32, Refusal> {
+    let (plan, _) = plan_of(table)?;
+    lent(next, 1, "next")?;
+    let (led_to, rounds) = walks::step_from(&plan, set, letter)?;
+    put(next, &[to_number(&led_to)]);
+    Ok(rounds as u32)
+}
+
 fn walk(table: &[u64], word: &[u8], sets: &mut [u64], length: &mut [u64]) -> Result<u32, Refusal> {
     let (plan, _) = plan_of(table)?;
     lent(sets, word.len() + 1, "sets")?;

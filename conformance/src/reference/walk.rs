@@ -1,8 +1,8 @@
 //! Words over a plan: what they reach, from where they can be walked, whole walks, verdicts, and the plain walk of document 01.
 
-use super::forms::{MOST_LEGS, STARTS};
+use super::forms::{MOST_LEGS, MOST_STAKES, STARTS};
 use super::plan::Plan;
-use super::{members, only, refuse, size, Refusal, Stakes};
+use super::{from_number, members, only, refuse, size, Refusal, Stakes};
 
 /// The stakes that a code leads to from a set.
 pub fn step(plan: &Plan, from: &[bool], code: u8) -> Stakes {
@@ -13,6 +13,20 @@ pub fn step(plan: &Plan, from: &[bool], code: u8) -> Stakes {
         }
     }
     led_to
+}
+
+/// W-204, the step from any set: the stakes led to, and the rounds, "exactly as many as the set has members".
+pub fn step_from(plan: &Plan, set: u64, code: u32) -> Result<(Stakes, usize), Refusal> {
+    if code as usize >= plan.m {
+        return refuse(12, if code > 255 { "the code above 255" } else { "the code not below m" });
+    }
+    if (plan.n..MOST_STAKES).any(|bit| set >> bit & 1 == 1) {
+        return refuse(12, "the set's bit n or higher");
+    }
+    let from = from_number(set, plan.n);
+    let led_to = step(plan, &from, code as u8);
+    let rounds = size(&from);
+    Ok((led_to, rounds))
 }
 
 /// The stakes that a word leads to from a set.

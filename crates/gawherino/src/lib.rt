@@ -5,7 +5,7 @@ ghost use Rattle.plan.specs.Bytes.{asked};
 ghost use Rattle.prepare.specs.Preparing.{Draws};
 ghost use Rattle.numbers.specs.Numbers.{groupNumber};
 ghost use Rattle.plan_calls.specs.Promises.{PassesReading, PassesPrepared, PassesCount, PassesCheck, PassesWriting};
-ghost use Rattle.table_calls.specs.Promises.{PassesWalk, PassesVerdict};
+ghost use Rattle.table_calls.specs.Promises.{PassesStep, PassesWalk, PassesVerdict};
 ghost use Rattle.record_calls.specs.Promises.{PassesOpening, PassesLetter, PassesEnding};
 
 // CALLS ON A PLAN
@@ -66,6 +66,14 @@ pub extern "C" fn gawherino_write(plan: &[u8], out: &mut [u8]) -> u32
 }
 
 // CALLS ON A TABLE
+
+// One step: its rounds; further the set that it led to.
+#[no_mangle]
+pub extern "C" fn gawherino_step(table: &[u64], set: u64, letter: u32, next: &mut [u64]) -> u32
+    ensures { λ r. ⌜ PassesStep (now (table .entry)) set letter r (now (next .entry)) (now (next .exit)) ⌝ }
+{
+    table_calls::step(table, set, letter, next)
+}
 
 // A whole walk: 0; further g.
 #[no_mangle]

@@ -1,4 +1,5 @@
 pub mod Sets
+pub mod Stepping
 pub mod Positions
 pub mod Walking
 pub mod Endings

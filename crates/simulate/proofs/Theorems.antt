@@ -1,43 +1,91 @@
 -- The theorems of specs/Theorems.antt.
 -- Assumes nothing.
-use Prim.Native.Nat.{ℕ, suc, _≤_, _<_}
+use Prim.Native.Nat.{ℕ, suc, _^_, _≤_, _<_}
 use mathlib.Core.Bool.{Bool, true, false, not, false≢true}
 use mathlib.Core.Option.{some}
+use mathlib.Core.Logic.{_↔_}
 use mathlib.Core.Path.{_≡_, sym, _∙_, ap}
-use mathlib.Core.List.{List}
+use mathlib.Core.List.{List, [], _∷_}
 use native.Mathlib.Omega.{arith}
-use lib.ListN.{length, getD, drop, length-append, length-drop}
+use lib.Dec.{leb}
+use lib.ListN.{length, getD, take, drop, length-append, length-drop}
 use lib.Pow.{pow-pos}
-use lib.Seq.{drop-at}
-use borrow.Author.Tests.{le-ltb, ltb-false, not-false}
-use Rattle.bitset.proofs.Tests.{not-so, same-test}
-use Rattle.bitset.proofs.Below.{any-in}
-use Rattle.bitset.proofs.Bits.{has-empty, setOf-cong, setOf-has}
-use Rattle.semiautomata.specs.Semiautomaton.{Semiautomaton}
+use lib.Seq.{drop-at, take-take}
+use borrow.Author.Tests.{le-ltb, lt-leb, ltb-false, leb-false, not-false}
+use Rattle.bitset.specs.Sets.{size}
+use Rattle.bitset.specs.Numbers.{has, setOf}
+use Rattle.bitset.proofs.Tests.{not-so, same-test, or-none}
+use Rattle.bitset.proofs.Below.{any-in, any-out}
+use Rattle.bitset.proofs.Bits.{has-empty, has-lt, some-member, setOf-cong, setOf-has}
+use Rattle.semiautomata.specs.Semiautomaton.{Semiautomaton, Within}
 use Rattle.semiautomata.specs.Predictability.{Critical, member, named}
-use Rattle.semiautomata.specs.Walks.{OnPlan, Longest, PossibleAt}
-use Rattle.semiautomata.proofs.Paths.{path-letters}
-use Rattle.semiautomata.proofs.Computed.{longest-unique}
-use Rattle.semiautomata.proofs.Positions.{on-plan-longest}
+use Rattle.semiautomata.specs.Walks.{OnPlan, LedTo, Longest, PossibleAt, reach}
+use Rattle.semiautomata.proofs.Paths.{path-lt, path-letters}
+use Rattle.semiautomata.proofs.Computed.{led-in, led-out, longest-unique}
+use Rattle.semiautomata.proofs.Positions.{some-possible, on-plan-longest}
 use Rattle.refusals.proofs.First.{first-passed, passed-first}
-use Rattle.table.specs.Table.{statesOf, tableMeaning, unfit}
+use Rattle.table.specs.Table.{statesOf, lettersOf, initialOf, tableMeaning, unfit}
 use Rattle.table.proofs.Fitness.{fitting}
 use Rattle.walks.proofs.Letters.{letters-stray}
 use Rattle.walks.proofs.Longest.{longest-some}
+use Rattle.walks.specs.declared.Gathered.{Gathered}
+use Rattle.simulate.specs.declared.Stepped.{Stepped}
+use Rattle.simulate.specs.declared.Stepped.the-variants as stepping
 use Rattle.simulate.specs.declared.Walked.{Walked}
 use Rattle.simulate.specs.declared.Walked.the-variants.{Upto, Refused}
 use Rattle.simulate.specs.declared.Verdict.{Verdict}
 use Rattle.simulate.specs.declared.Judged.the-variants.{Told}
+use Rattle.simulate.specs.Stepping.{stepChecks, stepRefusal, gatheredOf, StepsTo, StepsAlong}
 use Rattle.simulate.specs.Walking.{walkChecks, walkRefusal, traced, Walks}
 use Rattle.simulate.specs.Verdicts.{Stands, Tells, Judges}
 use Rattle.simulate.specs.Theorems.{Theorems}
-use Rattle.simulate.proofs.Positions.{traced-length, traced-stands}
+use Rattle.simulate.proofs.Sets.{stands}
+use Rattle.simulate.proofs.Stepping.{along-is}
+use Rattle.simulate.proofs.Positions.{traced-length, traced-last, traced-stands}
 
 pub one-set : (n : ℕ) (P : ℕ → Type 0) (a b : ℕ) → Stands n P a → Stands n P b → a ≡ b
 one-set n P a b s t =
     sym (setOf-has n a (s .fits))
     ∙ setOf-cong n _ _ (λ x _. same-test _ _ (λ e. t .is x .1 (s .is x .0 e)) (λ e. s .is x .1 (t .is x .0 e)))
     ∙ setOf-has n b (t .fits)
+
+-- ONE STEP
+
+-- what a word leads to from a set, as a number
+led-stands : (S : Semiautomaton) → Within S → (set : ℕ) → set < 2 ^ S .n → (w : List ℕ) {last : ℕ}
+    → last ≡ setOf (S .n) (reach S (has set) w) → Stands (S .n) (LedTo S (has set) w) last
+led-stands S W set h w e = stands (S .n) _ e (led-out S (has set) w)
+    (λ x c. (path-lt S W w (c .start) x (has-lt _ _ _ h (c .from-it)) (c .path), led-in S W (has set) w x c))
+
+-- a step that is not refused was lent a fit table and a set of its states
+pub step-passed : (table : List ℕ) (set a : ℕ) (g : Gathered) → StepsTo table set a (stepping.To g)
+    → (unfit table ≡ false) × (set < 2 ^ statesOf table)
+unfolding stepRefusal
+step-passed table set a g (z, _) =
+    let (fit, (on, _)) = first-passed 12 (stepChecks table set a) (search arith) z in
+    (fit, leb-false (2 ^ statesOf table) set (or-none (leb (lettersOf table) a) _ on .1))
+
+stepped : (table : List ℕ) (set a : ℕ) (g : Gathered) → StepsTo table set a (stepping.To g)
+    → Stands (statesOf table) (LedTo (tableMeaning table) (has set) (a ∷ [])) (g .set) × (g .rounds ≡ size (statesOf table) (has set))
+stepped table set a g c =
+    let (fit, h) = step-passed table set a g c in (
+      led-stands (tableMeaning table) (fitting table fit .within) set h (a ∷ []) (ap (λ (g : Gathered). g .set) (c .1)),
+      ap (λ (g : Gathered). g .rounds) (c .1),
+    )
+
+step-taken : (table : List ℕ) (set a : ℕ) (s : Stepped) → unfit table ≡ false → set < 2 ^ statesOf table → a < lettersOf table
+    → StepsTo table set a s → s ≡ stepping.To (gatheredOf (tableMeaning table) set a)
+unfolding stepRefusal
+step-taken table set a (stepping.To g) fit h b (_, e) = ap stepping.To e
+step-taken table set a (stepping.Refused r) fit h b (e, n, _) =
+    absurd (n (e ∙ passed-first (stepChecks table set a) (fit, (rw (lt-leb (lettersOf table) a b, lt-leb (2 ^ statesOf table) set h), tt))))
+
+along : (table : List ℕ) (set : ℕ) (word : List ℕ) (last : ℕ) → unfit table ≡ false → set < 2 ^ statesOf table
+    → StepsAlong table set word last → Stands (statesOf table) (LedTo (tableMeaning table) (has set) word) last
+along table set word last fit h c =
+    led-stands (tableMeaning table) (fitting table fit .within) set h word (along-is table set word last h c)
+
+-- WHOLE WALKS
 
 pub walked : (table word : List ℕ) (g : ℕ) (old out : List ℕ) → Walks table word (Upto g) old out
     → Longest (tableMeaning table) word g
@@ -74,6 +122,45 @@ to-its-end table word (Refused r) old out fit o room (e, n, _) =
     let some = any-in (S .n) (S .initial) (o .start) (W .initial-lt (o .start) (o .from-it)) (o .from-it) in
     absurd (n (e ∙ passed-first (walkChecks table word (length old)) (fit, (long, (on, (ap not some, tt))))))
 
+walk-along : (table word : List ℕ) (g : ℕ) (old out : List ℕ) → Walks table word (Upto g) old out
+    → (i last : ℕ) → i ≤ length word → StepsAlong table (initialOf table) (take i word) last
+    → ((i ≤ g) ↔ ¬ (last ≡ 0)) × (i ≡ g → last ≡ getD out g 0)
+unfolding walkRefusal
+walk-along table word g old out c i last h steps = ((from, into), there)
+  where
+    S : Semiautomaton
+    S = tableMeaning table
+
+    fit : unfit table ≡ false
+    fit = first-passed 14 (walkChecks table word (length old)) (search arith) (c .0) .0
+
+    l : Longest S word g
+    l = walked table word g old out c .0
+
+    led : Stands (S .n) (LedTo S (S .initial) (take i word)) last
+    led = along table (initialOf table) (take i word) last fit (fitting table fit .initial) steps
+
+    from : i ≤ g → ¬ (last ≡ 0)
+    from k z =
+        let (x, p) = some-possible S (S .initial) (take g word) i (l .walked) in
+        let path = rw (take-take i g word k) at (p .before) in
+        let e = led .is x .1 (record { start = p .start; from-it = p .from-it; path = path }) in
+        false≢true (sym (has-empty x) ∙ rw z at e)
+
+    into : ¬ (last ≡ 0) → i ≤ g
+    into n =
+        let (x, _, e) = any-out (S .n) (has last) (some-member (S .n) last (omega (arith, n)) (led .fits)) in
+        let c = led .is x .0 e in
+        l .most i h (record { start = c .start; from-it = c .from-it; spells = (x, c .path) })
+
+    there : i ≡ g → last ≡ getD out g 0
+    there e =
+        let (long, is) = c .1 in
+        along-is table (initialOf table) (take i word) last (fitting table fit .initial) steps
+        ∙ rw (e, is, long) (sym (traced-last S word _))
+
+-- VERDICTS
+
 abbrev verdict : ℕ → Bool → ℕ → Verdict
 verdict survivors minimal nonselected = record { survivors = survivors; minimal = minimal; nonselected = nonselected }
 
@@ -103,4 +190,14 @@ empty-set table q a word T name none v (_, tell) =
     })
 
 pub theorems : Theorems
-theorems = record { one-set = one-set; walked = walked; to-its-end = to-its-end; one-verdict = one-verdict; empty-set = empty-set }
+theorems = record {
+  one-set = one-set;
+  stepped = stepped;
+  step-taken = step-taken;
+  along = along;
+  walked = walked;
+  to-its-end = to-its-end;
+  walk-along = walk-along;
+  one-verdict = one-verdict;
+  empty-set = empty-set;
+}

@@ -1,3 +1,4 @@
+pub mod Stepping
 pub mod Walking
 pub mod Verdicts
 pub mod Theorems

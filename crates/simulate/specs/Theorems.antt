@@ -1,27 +1,45 @@
--- What follows of the promises of this crate: a whole walk's sets are Theorem 3's, a word on the plan is walked to its end, and there is
--- one verdict.
+-- What follows of the promises of this crate: steps along a word lead where it leads, a whole walk's sets are Theorem 3's, a word on the
+-- plan is walked to its end, steps and whole walks agree, and there is one verdict.
 -- proofs/Theorems.antt has the proofs.
 -- Assumes nothing.
-use Prim.Native.Nat.{ℕ, suc, _≤_, _<_}
+use Prim.Native.Nat.{ℕ, suc, _^_, _≤_, _<_}
 use mathlib.Core.Bool.{false}
 use mathlib.Core.Option.{some}
+use mathlib.Core.Logic.{_↔_}
 use mathlib.Core.Path.{_≡_}
-use mathlib.Core.List.{List}
-use lib.ListN.{length, getD, drop}
+use mathlib.Core.List.{List, [], _∷_}
+use lib.ListN.{length, getD, take, drop}
+use Rattle.bitset.specs.Sets.{size}
+use Rattle.bitset.specs.Numbers.{has}
 use Rattle.semiautomata.specs.Semiautomaton.{Semiautomaton}
 use Rattle.semiautomata.specs.Predictability.{Critical, member, named}
-use Rattle.semiautomata.specs.Walks.{OnPlan, Longest, PossibleAt}
-use Rattle.table.specs.Table.{statesOf, tableMeaning, unfit}
+use Rattle.semiautomata.specs.Walks.{OnPlan, LedTo, Longest, PossibleAt}
+use Rattle.table.specs.Table.{statesOf, lettersOf, initialOf, tableMeaning, unfit}
+use Rattle.walks.specs.declared.Gathered.{Gathered}
+use Rattle.simulate.specs.declared.Stepped.{Stepped}
+use Rattle.simulate.specs.declared.Stepped.the-variants.{To}
 use Rattle.simulate.specs.declared.Walked.{Walked}
 use Rattle.simulate.specs.declared.Walked.the-variants.{Upto}
 use Rattle.simulate.specs.declared.Verdict.{Verdict}
 use Rattle.simulate.specs.declared.Judged.the-variants.{Told}
+use Rattle.simulate.specs.Stepping.{gatheredOf, StepsTo, StepsAlong}
 use Rattle.simulate.specs.Walking.{Walks}
 use Rattle.simulate.specs.Verdicts.{Stands, Tells, Judges}
 
 pub record Theorems : Type 1 where
   -- one number stands for a set
   pub one-set : (n : ℕ) (P : ℕ → Type 0) (a b : ℕ) → Stands n P a → Stands n P b → a ≡ b
+  -- ONE STEP (W-204)
+  -- a step leads to the states that the letter leads to from the set, in as many rounds as the set has members
+  pub stepped : (table : List ℕ) (set a : ℕ) (g : Gathered) → StepsTo table set a (To g)
+      → Stands (statesOf table) (LedTo (tableMeaning table) (has set) (a ∷ [])) (g .set) × (g .rounds ≡ size (statesOf table) (has set))
+  -- with a fit table no set of its states and no letter of it is refused, so that a step may begin where another has led
+  pub step-taken : (table : List ℕ) (set a : ℕ) (s : Stepped) → unfit table ≡ false → set < 2 ^ statesOf table → a < lettersOf table
+      → StepsTo table set a s → s ≡ To (gatheredOf (tableMeaning table) set a)
+  -- steps along a word lead to the states that the word leads to
+  pub along : (table : List ℕ) (set : ℕ) (word : List ℕ) (last : ℕ) → unfit table ≡ false → set < 2 ^ statesOf table
+      → StepsAlong table set word last → Stands (statesOf table) (LedTo (tableMeaning table) (has set) word) last
+  -- WHOLE WALKS
   -- a whole walk answers the length of its longest beginning on the plan; the numbers at positions 0 to it stand for Theorem 3's sets, and
   -- the rest of the buffer is as it was
   pub walked : (table word : List ℕ) (g : ℕ) (old out : List ℕ) → Walks table word (Upto g) old out
@@ -32,6 +50,11 @@ pub record Theorems : Type 1 where
   -- a word that is on the plan is walked to its end, with a fit table and room for all its positions
   pub to-its-end : (table word : List ℕ) (a : Walked) (old out : List ℕ) → unfit table ≡ false → OnPlan (tableMeaning table) word
       → length word < length old → Walks table word a old out → a ≡ Upto (length word)
+  -- steps from the initial states along a whole walk lead somewhere exactly as far as it goes, and there to its last set
+  pub walk-along : (table word : List ℕ) (g : ℕ) (old out : List ℕ) → Walks table word (Upto g) old out
+      → (i last : ℕ) → i ≤ length word → StepsAlong table (initialOf table) (take i word) last
+      → ((i ≤ g) ↔ ¬ (last ≡ 0)) × (i ≡ g → last ≡ getD out g 0)
+  -- VERDICTS
   -- a word has one verdict
   pub one-verdict : (S : Semiautomaton) (T : Critical) (word : List ℕ) (v w : Verdict) → Tells S T word v → Tells S T word w → v ≡ w
   -- a critical set without states gives empty sets and no selector

@@ -1,5 +1,5 @@
-// Whole walks on a prepared table, and verdicts on look-ahead words (document 01, Walks; Verdict on a look-ahead word).
-// Both judge what they are lent first; the walking itself is crate walks'.
+// One step on a prepared table (document 02, W-204), whole walks, and verdicts on look-ahead words (document 01, Walks; Verdict on a
+// look-ahead word). All judge what they are lent first; the walking itself is crate walks'.
 ghost use mathlib.Core.Path.{_≡_};
 ghost use mathlib.Core.Bool.{not};
 ghost use Prim.Native.Nat.{ℕ, _^_, _<_};
@@ -8,9 +8,16 @@ ghost use Rattle.bitset.specs.Numbers.{has};
 ghost use Rattle.semiautomata.specs.Walks.{step};
 ghost use Rattle.semiautomata.specs.Successors.{successors, Fit};
 ghost use Rattle.walks.specs.Walking.{Letters};
+ghost use Rattle.simulate.specs.Stepping.{StepsTo};
 ghost use Rattle.simulate.specs.Walking.{Walks};
 ghost use Rattle.simulate.specs.Verdicts.{Judges};
 ghost use Rattle.simulate.specs.inner.Verdicts.{endingIn, Computes};
+
+// What a step answers: the set that it led to with its rounds, or a refusal.
+pub enum Stepped {
+    To(walks::Gathered),
+    Refused(u8),
+}
 
 // What a whole walk answers: the length of its longest beginning on the plan, or a refusal.
 pub enum Walked {
@@ -29,6 +36,21 @@ pub struct Verdict {
 pub enum Judged {
     Told(Verdict),
     Refused(u8),
+}
+
+// One step from a set of states by a letter, the lowest member first.
+pub fn step(table: &[u64], set: u64, letter: u32) -> Stepped
+    ensures { λ r. ⌜ StepsTo (now (table .entry)) set letter r ⌝ }
+{
+    let head = table::head_of(table);
+    if !head.fit {
+        return Stepped::Refused(8);
+    }
+    if (head.m <= letter as usize) | (set >> (head.n - 1) > 1) {
+        return Stepped::Refused(12);
+    }
+    let sets = &table[table::SETS_FROM..];
+    Stepped::To(walks::gather(sets, head.n, head.m, set, letter as usize))
 }
 
 // A whole walk: g, and the possible states at positions 0 to g into the lent numbers.

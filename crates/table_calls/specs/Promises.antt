@@ -6,6 +6,8 @@ use mathlib.Core.Path.{_≡_}
 use mathlib.Core.List.{List, [], _∷_}
 use Rattle.bitset.specs.Sets.{one-if}
 use Rattle.table.specs.Table.{tableCheck}
+use Rattle.simulate.specs.declared.Stepped.{Stepped}
+use Rattle.simulate.specs.Stepping.{StepsTo, outcomeOfStepped}
 use Rattle.simulate.specs.declared.Walked.{Walked}
 use Rattle.simulate.specs.Walking.{Walks, outcomeOfWalked}
 use Rattle.simulate.specs.declared.Judged.{Judged}
@@ -13,6 +15,10 @@ use Rattle.simulate.specs.Verdicts.{Judges, outcomeOfJudged}
 use Rattle.numbers.specs.Numbers.{Numbers, valued, inNumbers, PassesOn}
 
 -- THE NUMBERS OF EACH OUTCOME
+
+-- The rounds; the set led to.
+abbrev pub ofStepped : Stepped → Numbers
+ofStepped a = inNumbers (λ g. valued (g .rounds) (g .set ∷ [])) (outcomeOfStepped a)
 
 -- 0; g.
 abbrev pub ofWalked : Walked → Numbers
@@ -23,6 +29,9 @@ abbrev pub ofJudged : Judged → Numbers
 ofJudged a = inNumbers (λ v. valued (one-if (v .minimal)) (v .survivors ∷ v .nonselected ∷ [])) (outcomeOfJudged a)
 
 -- THE PROMISES
+
+abbrev pub PassesStep : List ℕ → ℕ → ℕ → ℕ → List ℕ → List ℕ → Type 0
+PassesStep table set letter r old next = PassesOn ofStepped 1 (tableCheck table ∷ []) (StepsTo table set letter) Unit r old next
 
 abbrev pub PassesWalk : List ℕ → List ℕ → ℕ → List ℕ → List ℕ → List ℕ → List ℕ → Type 0
 PassesWalk table word r old sets old′ more =
