@@ -199,10 +199,10 @@ uint32_t gawherino_write(const uint8_t *plan, size_t plan_len, uint8_t *out, siz
 
 /* CALLS ON A TABLE */
 
-/* A step by one code from any set of stakes, the empty one too: its rounds, exactly as many as the set has stakes, the lowest first; into
- * next (1): the stakes that the code leads to from them, 0 if it leads nowhere. Steps along the codes of a walk, the first from the starts
- * (table[3]) and each other one from the set that the one before gave, give the stakes reached. Refused with 8, 9, 12; 12 if the code is
- * not below m or the set has a bit n or higher. */
+/* A step by one code from any set of stakes, the empty one too: its rounds, one for each stake of the set; into next (1): the stakes that
+ * the code leads to from them, 0 if it leads nowhere. Steps along the codes of a walk, the first from the starts (table[3]) and each other
+ * one from the set that the one before gave, give the stakes reached. Refused with 8, 9, 12; 12 if the code is not below m or the set has
+ * a bit n or higher. */
 uint32_t gawherino_step(const uint64_t *table, size_t table_len, uint64_t set, uint32_t letter, uint64_t *next, size_t next_len);
 
 /* A whole walk: 0; into length (1): g; into sets (one more than the word has codes): the possible stakes at 0 to g.

@@ -153,7 +153,7 @@ macro_rules! numbers {
 
             fn passed(given: &mut Given) -> $type {
                 let Given::Number(number) = given else { panic!("{given:?} is no number") };
-                (*number).try_into().expect("a number of so many bits")
+                (*number).try_into().expect(concat!("a number of type ", stringify!($type)))
             }
         })*
     };

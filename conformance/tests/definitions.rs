@@ -2,6 +2,7 @@
 
 mod common;
 
+use common::words;
 use conformance::random::{bytes, claims, plans, Random};
 use conformance::reference::claim;
 use conformance::reference::doubt::in_doubt;
@@ -11,14 +12,6 @@ use conformance::reference::record::{feed, Record};
 use conformance::reference::walk::{possible, reach, step_from, verdict, whole_walk};
 use conformance::reference::{members, only, size};
 use std::collections::BTreeSet;
-
-fn words(m: usize, length: usize) -> Vec<Vec<u8>> {
-    let mut list = vec![Vec::new()];
-    for _ in 0..length {
-        list = list.iter().flat_map(|word| (0..m as u8).map(move |code| [word.as_slice(), &[code]].concat())).collect();
-    }
-    list
-}
 
 /// w in R(s), by trying every line in turn.
 fn walks(plan: &Plan, s: usize, word: &[u8]) -> bool {

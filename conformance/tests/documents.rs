@@ -348,7 +348,7 @@ fn steps_of_64_stakes() {
     let plan = draft(64, 32, &[0], &lines);
     for calls in common::everyone() {
         let (_, table) = prepared(calls, &plan).expect("k 0");
-        for set in [u64::MAX, u64::MAX - 1, 1 << 63, 1, u64::MAX >> 1, 0x0123_4567_89AB_CDEF] {
+        for set in [0, u64::MAX, u64::MAX - 1, 1 << 63, 1, u64::MAX >> 1, 0x0123_4567_89AB_CDEF] {
             assert_eq!(stepped(calls, &table, set, 31), Ok((set.count_ones(), set.reverse_bits())), "{set:x} by {}", calls.name());
             assert_eq!(stepped(calls, &table, set, 30), Ok((set.count_ones(), 0)), "{set:x} by {}", calls.name());
             assert_eq!(stepped(calls, &table, set, 32), Err(12), "{set:x} by {}", calls.name());
@@ -356,31 +356,31 @@ fn steps_of_64_stakes() {
     }
 }
 
-/// Steps along a word from the starts give the stakes reached: a whole walk goes on as long as they lead anywhere, and ends in the last of
-/// their sets. Every word of up to five codes on the listed plans that have a start, those without a k too.
+/// Steps along a word from the starts give the stakes reached: a whole walk goes on as long as they lead anywhere, shows no other stakes,
+/// and ends in the last of their sets. Every word of up to five codes on the listed plans that have a start, those without a k too.
 #[test]
 fn steps_along_a_whole_walk() {
     for calls in common::everyone() {
-        let (mut to_the_end, mut shorter) = (0, 0);
+        let (mut to_the_end, mut shorter, mut fewer) = (0, 0, 0);
         for (name, plan, _) in listed().into_iter().filter(|(_, plan, _)| !plan.starts.is_empty()) {
             let table = conformance::reference::table::table_of(&read(&plan.bytes()).expect("sound").plan, 0);
-            for word in (0..1u32 << 5).map(|bits| (0..5).map(|i| (bits >> i) as u8 % 2 % plan.m as u8).collect::<Vec<u8>>()) {
-                for end in 0..=word.len() {
-                    let mut sets = vec![table[table::STARTS]];
-                    for &code in &word[..end] {
-                        let set = sets[sets.len() - 1];
-                        let (rounds, next) = stepped(calls, &table, set, code as u32).expect("on the plan");
-                        assert_eq!(rounds, set.count_ones(), "{name} by {}", calls.name());
-                        sets.push(next);
-                    }
-                    let walk = walked(calls, &table, &word[..end]);
-                    let g = sets.iter().rposition(|&set| set != 0).expect("there are starts");
-                    assert_eq!((walk.len() - 1, walk[g]), (g, sets[g]), "{name}, {:?} by {}", &word[..end], calls.name());
-                    *(if g == end { &mut to_the_end } else { &mut shorter }) += 1;
+            for word in (0..=5).flat_map(|length| common::words(plan.m, length)) {
+                let mut sets = vec![table[table::STARTS]];
+                for &code in &word {
+                    let set = sets[sets.len() - 1];
+                    let (rounds, next) = stepped(calls, &table, set, code as u32).expect("on the plan");
+                    assert_eq!(rounds, set.count_ones(), "{name} by {}", calls.name());
+                    sets.push(next);
                 }
+                let walk = walked(calls, &table, &word);
+                let g = sets.iter().rposition(|&set| set != 0).expect("there are starts");
+                assert_eq!((walk.len() - 1, walk[g]), (g, sets[g]), "{name}, {word:?} by {}", calls.name());
+                assert!(walk.iter().zip(&sets).all(|(shown, reached)| shown & !reached == 0), "{name}, {word:?} by {}", calls.name());
+                fewer += walk.iter().zip(&sets).any(|(shown, reached)| shown != reached) as u32;
+                *(if g == word.len() { &mut to_the_end } else { &mut shorter }) += 1;
             }
         }
-        assert!(to_the_end > 300 && shorter > 300, "{to_the_end} to the end, {shorter} shorter");
+        assert!(to_the_end > 40 && shorter > 140 && fewer > 20, "{to_the_end} to the end, {shorter} shorter, {fewer} with fewer shown");
     }
 }
 

@@ -1,4 +1,4 @@
-//! Words and legs over a plan.
+//! Words and legs over a plan, and sets to step from.
 
 use super::Random;
 use crate::forms::MAX_STAKES;

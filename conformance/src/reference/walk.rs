@@ -1,4 +1,4 @@
-//! Words over a plan: what they reach, from where they can be walked, whole walks, verdicts, and the plain walk of document 01.
+//! Codes and words over a plan: what they reach, from where they can be walked, whole walks, verdicts, and the plain walk of document 01.
 
 use super::forms::{MOST_LEGS, MOST_STAKES, STARTS};
 use super::plan::Plan;

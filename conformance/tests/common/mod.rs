@@ -1,4 +1,4 @@
-//! What the tests share: who is compared with the reference, and the settings by environment variable.
+//! What the tests share: who is compared with the reference, the settings by environment variable, and words.
 #![allow(dead_code)]
 
 pub mod program;
@@ -34,4 +34,13 @@ pub fn seed() -> u64 {
 /// GAWHERINO_SECONDS: how long the random comparisons take, each.
 pub fn seconds() -> u64 {
     number("GAWHERINO_SECONDS", 25)
+}
+
+/// All words of a length.
+pub fn words(m: usize, length: usize) -> Vec<Vec<u8>> {
+    let mut list = vec![Vec::new()];
+    for _ in 0..length {
+        list = list.iter().flat_map(|word| (0..m as u8).map(move |code| [word.as_slice(), &[code]].concat())).collect();
+    }
+    list
 }

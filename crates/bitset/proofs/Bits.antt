@@ -7,10 +7,11 @@ use Prim.Native.Nat.{ℕ, zero, suc, _+_, _-_, _*_, _/_, _%_, _^_, _≤_, _<_, m
 use native.Mathlib.Nat.{div-one, zero-div, one-mul, pow-suc, mod-eq-of-lt, div-eq-of-lt, lt-of-le-of-lt, lt-of-lt-of-le, lt-of-not-le}
 use native.Mathlib.Numerals.{one-add}
 use native.Mathlib.Omega.{arith}
-use lib.Dec.{lit<, eqb, ltb, eqb·zero-suc, eqb·suc-zero, eqb·suc-suc, leb·zero, leb·suc-zero, leb·suc-suc}
+use lib.Arith.{digits-div}
+use lib.Dec.{lit<, eqb, ltb, leb, eqb·zero-suc, eqb·suc-zero, eqb·suc-suc, leb·zero, leb·suc-zero, leb·suc-suc}
 use lib.Bits.{bitAnd, bitOr, bitXor, differ, and-step, or-step, xor-step, and-le-l, and-mask, mask-lt}
-use lib.Pow.{pow-pos, pow-mono, pow-lt, ones-lt, shr-shr, shl-exact}
-use borrow.Author.Tests.{lt-ltb}
+use lib.Pow.{pow-pos, pow-mono, pow-lt, ones-lt, shr-shr, shr-mono, shl-exact}
+use borrow.Author.Tests.{leb-true, leb-false, lt-ltb, le-ltb}
 use Rattle.bitset.specs.Sets.{any, one-if, single}
 use Rattle.bitset.specs.Numbers.{has, setOf}
 use Rattle.bitset.proofs.Tests.{or-none, decided}
@@ -207,6 +208,22 @@ fits-and-mask n x h = and-mask x n ∙ mod-eq-of-lt h
 -- beside `or-lt` of lib.Bits: a & b stays below 2 ^ k where a does
 pub and-fits : (k a b : ℕ) → a < 2 ^ k → bitAnd a b < 2 ^ k
 and-fits k a b h = lt-of-le-of-lt (and-le-l a b) h
+
+-- `a >> j > 1`: a has a bit above j
+pub above-shift : (j a : ℕ) → ltb 1 (a / 2 ^ j) ≡ leb (2 ^ suc j) a
+above-shift j a = elim (decided (leb (2 ^ suc j) a)) [ inl e ↦ lt-ltb 1 _ (some e) ∙ sym e | inr e ↦ le-ltb 1 _ (none e) ∙ sym e ]
+  where
+    some : leb (2 ^ suc j) a ≡ true → 1 < a / 2 ^ j
+    some e =
+        let two : (2 * 2 ^ j + 0) / 2 ^ j ≡ 2 = digits-div 2 (pow-pos j) in
+        let h : 2 * 2 ^ j + 0 ≤ a = omega (arith, leb-true (2 ^ suc j) a e) in
+        omega (arith, two, shr-mono j h)
+
+    none : leb (2 ^ suc j) a ≡ false → a / 2 ^ j ≤ 1
+    none e =
+        let one : (1 * 2 ^ j + (2 ^ j - 1)) / 2 ^ j ≡ 1 = digits-div 1 (omega (arith, pow-pos j)) in
+        let h : a ≤ 1 * 2 ^ j + (2 ^ j - 1) = omega (arith, leb-false (2 ^ suc j) a e) in
+        omega (arith, one, shr-mono j h)
 
 -- `a & b == 0`
 pub meets-none : (n a b : ℕ) → bitAnd a b ≡ 0 → any n (λ t. has a t && has b t) ≡ false

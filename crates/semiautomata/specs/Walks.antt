@@ -1,4 +1,5 @@
--- Words walked on a semiautomaton (document 01, Walks; 003, Theorem 3): what can be walked, and the possible states at each position.
+-- Words walked on a semiautomaton (document 01, Walks; 003, Theorem 3): what can be walked, where words lead, and the possible states at
+-- each position.
 -- Assumes nothing.
 use Prim.Native.Nat.{ℕ, zero, suc, _≤_}
 use mathlib.Core.Bool.{Bool, true, cond, _&&_}

@@ -1,21 +1,19 @@
 -- The sets of a whole walk: what a walk leaves in a buffer, and that these are the possible states at each position.
 -- Assumes nothing.
 use Prim.Native.Nat.{ℕ, suc, _≤_}
-use mathlib.Core.Path.{_≡_, refl, sym, _∙_}
+use mathlib.Core.Path.{_≡_, sym, _∙_}
 use mathlib.Core.List.{List, _++_}
 use native.Mathlib.Omega.{arith}
 use lib.ListN.{length, getD, take, drop, take-append-drop, List·getD-append}
-use lib.Seq.{length-take-le, getD-take, take-take}
+use lib.Seq.{length-take-le, getD-take}
 use Rattle.bitset.specs.Numbers.{setOf}
-use Rattle.bitset.proofs.Bits.{setOf-cong}
 use Rattle.semiautomata.specs.Semiautomaton.{Semiautomaton, Within}
-use Rattle.semiautomata.specs.Walks.{Longest, Possible, PossibleAt, reach, possible, longest}
+use Rattle.semiautomata.specs.Walks.{Longest, Possible, PossibleAt, possible, longest}
 use Rattle.semiautomata.proofs.Computed.{possible-in, possible-out, longest-unique}
 use Rattle.semiautomata.proofs.Positions.{possible-lt}
 use Rattle.table.proofs.Listed.{listed-length, listed-at, listed-are}
 use Rattle.walks.specs.Walking.{Written}
 use Rattle.walks.proofs.Longest.{longest-le}
-use Rattle.walks.proofs.Words.{possible-last}
 use Rattle.simulate.specs.Walking.{traced}
 use Rattle.simulate.specs.Verdicts.{Stands}
 use Rattle.simulate.proofs.Sets.{stands}
@@ -35,23 +33,6 @@ module _ (S : Semiautomaton) (w : List ℕ) where
       let rest : drop (suc g) out ≡ drop (suc g) old = rw long at (t .kept) in
       sym (take-append-drop (suc g) out) ∙ rw (traced, ← e) (λ i. front i ++ rest i)
 
-  -- the set at a position, in a buffer that holds more
-  pub traced-at : (rest : List ℕ) (i : ℕ) → i ≤ longest S w
-      → getD (traced S w ++ rest) i 0 ≡ setOf (S .n) (possible S (S .initial) (take (longest S w) w) i)
-  unfolding traced
-  traced-at rest i h =
-      let g = longest S w in
-      List·getD-append (traced S w) rest 0 i (rw traced-length (omega arith))
-      ∙ listed-at (λ i. setOf (S .n) (possible S (S .initial) (take g w) i)) 0 (suc g) i i (omega arith) (omega arith)
-
-  -- after the last letter, what is reached is possible
-  pub traced-last : (rest : List ℕ) → let g = longest S w in getD (traced S w ++ rest) g 0 ≡ setOf (S .n) (reach S (S .initial) (take g w))
-  traced-last rest =
-      let g = longest S w in
-      let long : length (take g w) ≡ g = length-take-le g w (longest-le S w refl) in
-      traced-at rest g (omega arith)
-      ∙ setOf-cong (S .n) _ _ (λ t _. sym (rw (long, take-take g g w (omega arith)) at (possible-last S (S .initial) (take g w) t)))
-
   module _ (W : Within S) where
     pub possible-stands : (g : ℕ) → Longest S w g → (i : ℕ) → i ≤ g → {set : ℕ} → set ≡ setOf (S .n) (possible S (S .initial) (take g w) i)
         → Stands (S .n) (PossibleAt S w i) set
@@ -63,4 +44,8 @@ module _ (S : Semiautomaton) (w : List ℕ) where
 
     pub traced-stands : Longest S w (longest S w) → (rest : List ℕ) (i : ℕ) → i ≤ longest S w
         → Stands (S .n) (PossibleAt S w i) (getD (traced S w ++ rest) i 0)
-    traced-stands l rest i h = possible-stands (longest S w) l i h (traced-at rest i h)
+    unfolding traced
+    traced-stands l rest i h =
+        let g = longest S w in
+        possible-stands g l i h (List·getD-append (traced S w) rest 0 i (rw traced-length (omega arith))
+        ∙ listed-at (λ i. setOf (S .n) (possible S (S .initial) (take g w) i)) 0 (suc g) i i (omega arith) (omega arith))

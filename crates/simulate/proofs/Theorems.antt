@@ -4,33 +4,37 @@ use Prim.Native.Nat.{ℕ, suc, _^_, _≤_, _<_}
 use mathlib.Core.Bool.{Bool, true, false, not, false≢true}
 use mathlib.Core.Option.{some}
 use mathlib.Core.Logic.{_↔_}
-use mathlib.Core.Path.{_≡_, sym, _∙_, ap}
+use mathlib.Core.Path.{_≡_, refl, sym, _∙_, ap}
 use mathlib.Core.List.{List, [], _∷_}
 use native.Mathlib.Omega.{arith}
+use lib.Count.{ones-le}
 use lib.Dec.{leb}
 use lib.ListN.{length, getD, take, drop, length-append, length-drop}
 use lib.Pow.{pow-pos}
-use lib.Seq.{drop-at, take-take}
-use borrow.Author.Tests.{le-ltb, lt-leb, ltb-false, leb-false, not-false}
+use lib.Seq.{drop-at, drop-length, length-take-le, take-take}
+use borrow.Author.Tests.{le-ltb, ltb-false, leb-false, not-false}
 use Rattle.bitset.specs.Sets.{size}
 use Rattle.bitset.specs.Numbers.{has, setOf}
 use Rattle.bitset.proofs.Tests.{not-so, same-test, or-none}
 use Rattle.bitset.proofs.Below.{any-in, any-out}
-use Rattle.bitset.proofs.Bits.{has-empty, has-lt, some-member, setOf-cong, setOf-has}
-use Rattle.semiautomata.specs.Semiautomaton.{Semiautomaton, Within}
+use Rattle.bitset.proofs.Bits.{has-empty, has-lt, same-members, some-member, setOf-cong, setOf-has}
+use Rattle.bitset.proofs.Members.{ones-size}
+use Rattle.semiautomata.specs.Semiautomaton.{Semiautomaton, Within, Path, Spells}
 use Rattle.semiautomata.specs.Predictability.{Critical, member, named}
-use Rattle.semiautomata.specs.Walks.{OnPlan, LedTo, Longest, PossibleAt, reach}
+use Rattle.semiautomata.specs.Walks.{OnPlan, LedTo, Longest, Possible, PossibleAt, reach}
 use Rattle.semiautomata.proofs.Paths.{path-lt, path-letters}
 use Rattle.semiautomata.proofs.Computed.{led-in, led-out, longest-unique}
 use Rattle.semiautomata.proofs.Positions.{some-possible, on-plan-longest}
 use Rattle.refusals.proofs.First.{first-passed, passed-first}
+use Rattle.semiautomata.specs.Sizes.{maxStates}
 use Rattle.table.specs.Table.{statesOf, lettersOf, initialOf, tableMeaning, unfit}
 use Rattle.table.proofs.Fitness.{fitting}
 use Rattle.walks.proofs.Letters.{letters-stray}
 use Rattle.walks.proofs.Longest.{longest-some}
 use Rattle.walks.specs.declared.Gathered.{Gathered}
 use Rattle.simulate.specs.declared.Stepped.{Stepped}
-use Rattle.simulate.specs.declared.Stepped.the-variants as stepping
+use Rattle.simulate.specs.declared.Stepped.the-variants.{To}
+use Rattle.simulate.specs.declared.Stepped.the-variants as a-step
 use Rattle.simulate.specs.declared.Walked.{Walked}
 use Rattle.simulate.specs.declared.Walked.the-variants.{Upto, Refused}
 use Rattle.simulate.specs.declared.Verdict.{Verdict}
@@ -40,8 +44,8 @@ use Rattle.simulate.specs.Walking.{walkChecks, walkRefusal, traced, Walk
 use Rattle.simulate.specs.Verdicts.{Stands, Tells, Judges}
 use Rattle.simulate.specs.Theorems.{Theorems}
 use Rattle.simulate.proofs.Sets.{stands}
-use Rattle.simulate.proofs.Stepping.{along-is}
-use Rattle.simulate.proofs.Positions.{traced-length, traced-last, traced-stands}
+use Rattle.simulate.proofs.Stepping.{along-is, step-passes, steps-on}
+use Rattle.simulate.proofs.Positions.{traced-length, traced-stands}
 
 pub one-set : (n : ℕ) (P : ℕ → Type 0) (a b : ℕ) → Stands n P a → Stands n P b → a ≡ b
 one-set n P a b s t =
@@ -58,14 +62,14 @@ led-stands S W set h w e = stands (S .n) _ e (led-out S (has set) w)
     (λ x c. (path-lt S W w (c .start) x (has-lt _ _ _ h (c .from-it)) (c .path), led-in S W (has set) w x c))
 
 -- a step that is not refused was lent a fit table and a set of its states
-pub step-passed : (table : List ℕ) (set a : ℕ) (g : Gathered) → StepsTo table set a (stepping.To g)
+step-passed : (table : List ℕ) (set a : ℕ) (g : Gathered) → StepsTo table set a (To g)
     → (unfit table ≡ false) × (set < 2 ^ statesOf table)
 unfolding stepRefusal
 step-passed table set a g (z, _) =
     let (fit, (on, _)) = first-passed 12 (stepChecks table set a) (search arith) z in
     (fit, leb-false (2 ^ statesOf table) set (or-none (leb (lettersOf table) a) _ on .1))
 
-stepped : (table : List ℕ) (set a : ℕ) (g : Gathered) → StepsTo table set a (stepping.To g)
+stepped : (table : List ℕ) (set a : ℕ) (g : Gathered) → StepsTo table set a (To g)
     → Stands (statesOf table) (LedTo (tableMeaning table) (has set) (a ∷ [])) (g .set) × (g .rounds ≡ size (statesOf table) (has set))
 stepped table set a g c =
     let (fit, h) = step-passed table set a g c in (
@@ -73,17 +77,26 @@ stepped table set a g c =
       ap (λ (g : Gathered). g .rounds) (c .1),
     )
 
+pub few-rounds : (table : List ℕ) (set a : ℕ) (g : Gathered) → StepsTo table set a (To g) → g .rounds ≤ maxStates
+few-rounds table set a g c =
+    let (fit, h) = step-passed table set a g c in
+    let n = statesOf table in
+    let e : g .rounds ≡ size n (has set) = ap (λ (g : Gathered). g .rounds) (c .1) in
+    omega (arith, e, ones-size n set h, ones-le n set h, fitting table fit .states)
+
 step-taken : (table : List ℕ) (set a : ℕ) (s : Stepped) → unfit table ≡ false → set < 2 ^ statesOf table → a < lettersOf table
-    → StepsTo table set a s → s ≡ stepping.To (gatheredOf (tableMeaning table) set a)
-unfolding stepRefusal
-step-taken table set a (stepping.To g) fit h b (_, e) = ap stepping.To e
-step-taken table set a (stepping.Refused r) fit h b (e, n, _) =
-    absurd (n (e ∙ passed-first (stepChecks table set a) (fit, (rw (lt-leb (lettersOf table) a b, lt-leb (2 ^ statesOf table) set h), tt))))
+    → StepsTo table set a s → s ≡ To (gatheredOf (tableMeaning table) set a)
+step-taken table set a (To g) fit h b (_, e) = ap To e
+step-taken table set a (a-step.Refused r) fit h b (e, n, _) = absurd (n (e ∙ step-passes table set a fit h b))
 
 along : (table : List ℕ) (set : ℕ) (word : List ℕ) (last : ℕ) → unfit table ≡ false → set < 2 ^ statesOf table
     → StepsAlong table set word last → Stands (statesOf table) (LedTo (tableMeaning table) (has set) word) last
 along table set word last fit h c =
     led-stands (tableMeaning table) (fitting table fit .within) set h word (along-is table set word last h c)
+
+along-starts : (table word : List ℕ) (last : ℕ) → unfit table ≡ false → StepsAlong table (initialOf table) word last
+    → Stands (statesOf table) (LedTo (tableMeaning table) (tableMeaning table .initial) word) last
+along-starts table word last fit c = along table (initialOf table) word last fit (fitting table fit .initial) c
 
 -- WHOLE WALKS
 
@@ -124,9 +137,11 @@ to-its-end table word (Refused r) old out fit o room (e, n, _) =
 
 walk-along : (table word : List ℕ) (g : ℕ) (old out : List ℕ) → Walks table word (Upto g) old out
     → (i last : ℕ) → i ≤ length word → StepsAlong table (initialOf table) (take i word) last
-    → ((i ≤ g) ↔ ¬ (last ≡ 0)) × (i ≡ g → last ≡ getD out g 0)
+    → ((i ≤ g) ↔ ¬ (last ≡ 0))
+    × (i ≤ g → (x : ℕ) → (has (getD out i 0) x ≡ true) ↔ ((has last x ≡ true) × Spells (tableMeaning table) x (drop i (take g word))))
+    × (i ≡ g → last ≡ getD out g 0)
 unfolding walkRefusal
-walk-along table word g old out c i last h steps = ((from, into), there)
+walk-along table word g old out c i last h steps = ((from, into), of-those, there)
   where
     S : Semiautomaton
     S = tableMeaning table
@@ -138,7 +153,26 @@ walk-along table word g old out c i last h steps = ((from, into), there)
     l = walked table word g old out c .0
 
     led : Stands (S .n) (LedTo S (S .initial) (take i word)) last
-    led = along table (initialOf table) (take i word) last fit (fitting table fit .initial) steps
+    led = along-starts table (take i word) last fit steps
+
+    of-those : i ≤ g → (x : ℕ) → (has (getD out i 0) x ≡ true) ↔ ((has last x ≡ true) × Spells S x (drop i (take g word)))
+    of-those k x =
+        let at = walked table word g old out c .1 i k .is x in
+        let part = take-take i g word k in (
+          λ e.
+              let p = at .0 e in
+              let q : Possible S (S .initial) (take g word) i x = rw (longest-unique S word (p .g) g (p .longest) l) at (p .is) in
+              (led .is x .1 (record { start = q .start; from-it = q .from-it; path = rw part at (q .before) }), q .after),
+          λ (e, after).
+              let q = led .is x .0 e in
+              let before : Path S (q .start) (take i (take g word)) x = rw part (q .path) in
+              at .1 (record {
+                g = g;
+                longest = l;
+                fits = k;
+                is = record { start = q .start; from-it = q .from-it; before = before; after = after };
+              }),
+        )
 
     from : i ≤ g → ¬ (last ≡ 0)
     from k z =
@@ -150,14 +184,15 @@ walk-along table word g old out c i last h steps = ((from, into), there)
     into : ¬ (last ≡ 0) → i ≤ g
     into n =
         let (x, _, e) = any-out (S .n) (has last) (some-member (S .n) last (omega (arith, n)) (led .fits)) in
-        let c = led .is x .0 e in
-        l .most i h (record { start = c .start; from-it = c .from-it; spells = (x, c .path) })
+        let q = led .is x .0 e in
+        l .most i h (record { start = q .start; from-it = q .from-it; spells = (x, q .path) })
 
     there : i ≡ g → last ≡ getD out g 0
     there e =
-        let (long, is) = c .1 in
-        along-is table (initialOf table) (take i word) last (fitting table fit .initial) steps
-        ∙ rw (e, is, long) (sym (traced-last S word _))
+        let long : length (take g word) ≡ i = length-take-le g word (l .fits) ∙ sym e in
+        let end : drop i (take g word) ≡ [] = rw long at (drop-length (take g word)) in
+        rw (← e) (same-members last (getD out i 0) (λ x. let (p, q) = of-those (omega arith) x in
+        same-test _ _ (λ d. q (d, rw end (x, refl))) (λ d. p d .0)))
 
 -- VERDICTS
 
@@ -193,8 +228,11 @@ pub theorems : Theorems
 theorems = record {
   one-set = one-set;
   stepped = stepped;
+  few-rounds = few-rounds;
   step-taken = step-taken;
+  steps-on = steps-on;
   along = along;
+  along-starts = along-starts;
   walked = walked;
   to-its-end = to-its-end;
   walk-along = walk-along;

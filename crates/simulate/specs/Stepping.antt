@@ -35,10 +35,11 @@ abbrev pub outcomeOfStepped : Stepped → Outcome Gathered
 outcomeOfStepped (To g) = answered g
 outcomeOfStepped (Refused r) = refused r
 
+-- What a step gives.
 abbrev pub StepsTo : List ℕ → ℕ → ℕ → Stepped → Type 0
 StepsTo table set a r = Gives (stepRefusal table set a) Unit (λ g. g ≡ gatheredOf (tableMeaning table) set a) (outcomeOfStepped r)
 
--- Steps along a word, each from the set that the one before led to; `last` is where the last one led.
+-- Steps along a word from a set, each from where the one before led; `last` is where they lead, with no letter the set itself.
 abbrev pub StepsAlong : List ℕ → ℕ → List ℕ → ℕ → Type 0
 StepsAlong table set [] last = set ≡ last
 StepsAlong table set (a ∷ w) last = (g : Gathered) × StepsTo table set a (To g) × StepsAlong table (g .set) w last

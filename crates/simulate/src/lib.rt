@@ -46,6 +46,7 @@ pub fn step(table: &[u64], set: u64, letter: u32) -> Stepped
     if !head.fit {
         return Stepped::Refused(8);
     }
+    // a bit n or higher: shifted by n - 1, since n may be 64
     if (head.m <= letter as usize) | (set >> (head.n - 1) > 1) {
         return Stepped::Refused(12);
     }

@@ -1,22 +1,16 @@
 -- The theorems of specs/Theorems.antt.
 -- Assumes nothing.
-use Prim.Native.Nat.{ℕ, _≤_, _<_}
+use Prim.Native.Nat.{ℕ, _<_}
 use mathlib.Core.Bool.{Bool, true, false}
-use mathlib.Core.Path.{refl, ap}
+use mathlib.Core.Path.{refl}
 use mathlib.Core.List.{List}
 use native.Mathlib.Omega.{arith}
-use lib.Count.{ones-le}
 use lib.ListN.{length}
-use Rattle.bitset.specs.Sets.{one-if, size}
-use Rattle.bitset.specs.Numbers.{has}
-use Rattle.bitset.proofs.Members.{ones-size}
-use Rattle.table.specs.Table.{statesOf}
-use Rattle.table.proofs.Fitness.{fitting}
-use Rattle.walks.specs.declared.Gathered.{Gathered}
+use Rattle.bitset.specs.Sets.{one-if}
 use Rattle.simulate.specs.declared.Stepped.{Stepped}
 use Rattle.simulate.specs.declared.Stepped.the-variants as stepped
 use Rattle.simulate.specs.Stepping.{stepChecks, stepRefusal, StepsTo}
-use Rattle.simulate.proofs.Theorems.{step-passed}
+use Rattle.simulate.proofs.Theorems.{few-rounds}
 use Rattle.simulate.specs.declared.Walked.{Walked}
 use Rattle.simulate.specs.declared.Walked.the-variants as walked
 use Rattle.simulate.specs.Walking.{walkChecks, walkRefusal, Walks}
@@ -30,11 +24,7 @@ use Rattle.table_calls.specs.Theorems.{Theorems}
 
 stepped-number : (table : List ℕ) (set a : ℕ) (s : Stepped) → StepsTo table set a s → Number (ofStepped s .first)
 unfolding stepRefusal
-stepped-number table set a (stepped.To g) c =
-    let (fit, h) = step-passed table set a g c in
-    let n = statesOf table in
-    let most : size n (has set) ≤ n = omega (arith, ones-size n set h, ones-le n set h) in
-    value (rw (ap (λ (g : Gathered). g .rounds) (c .1)) (omega (arith, most, fitting table fit .states)))
+stepped-number table set a (stepped.To g) c = value (omega (arith, few-rounds table set a g c))
 stepped-number table set a (stepped.Refused r) (e, z, _) = refused-number (stepChecks table set a) refl e z
 
 walked-number : (table word old out : List ℕ) (a : Walked) → Walks table word a old out → Number (ofWalked a .first)

@@ -1,5 +1,5 @@
-// The calls on a prepared table for C, over plain numbers and lent slices: one step, whole walks and verdicts. Where a slice for further values has
-// too few places for the most that a call may have to put there, the call is refused with 9 before anything is written.
+// The calls on a prepared table for C, over plain numbers and lent slices: one step, whole walks and verdicts. Where a slice for further
+// values has too few places for the most that a call may have to put there, the call is refused with 9 before anything is written.
 ghost use mathlib.Core.Path.{_≡_};
 ghost use mathlib.Core.List.{[], _∷_};
 ghost use Rattle.table.specs.Table.{tableCheck};

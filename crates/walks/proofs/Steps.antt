@@ -2,7 +2,7 @@
 -- Assumes nothing.
 use Prim.Native.Nat.{ℕ, _^_, _<_}
 use mathlib.Core.Bool.{Bool, _&&_}
-use mathlib.Core.Path.{_≡_, refl, sym, _∙_, ap}
+use mathlib.Core.Path.{_≡_, refl, sym, _∙_, ap, fun-ext}
 use mathlib.Core.List.{List, [], _∷_}
 use native.Mathlib.Omega.{arith}
 use lib.Pow.{pow-pos}
@@ -10,7 +10,7 @@ use lib.ListN.{length, getD, take, drop}
 use borrow.Author.Tests.{lt-ltb}
 use Rattle.bitset.specs.Numbers.{has, setOf}
 use Rattle.bitset.proofs.Below.{any-cong}
-use Rattle.bitset.proofs.Bits.{has-setOf, setOf-cong}
+use Rattle.bitset.proofs.Bits.{has-setOf, setOf-lt, setOf-has, setOf-cong}
 use Rattle.bitset.proofs.Taking.{Left, Joined, joined-all}
 use Rattle.semiautomata.specs.Semiautomaton.{Semiautomaton, Within}
 use Rattle.semiautomata.specs.Walks.{spells, step, reach, possible}
@@ -67,3 +67,9 @@ module _ {n m : ℕ} {sets : List ℕ} (f : Fit n m sets) {a : ℕ} (h : a < m) 
 pub step-members : (S : Semiautomaton) (X : ℕ → Bool) (a : ℕ) (t : ℕ) → step S (has (setOf (S .n) X)) a t ≡ step S X a t
 unfolding step
 step-members S X a t = any-cong (S .n) _ _ (λ s g. rw (has-setOf, lt-ltb s (S .n) g))
+
+-- .. and so does a word
+pub reach-members : (S : Semiautomaton) (X : ℕ → Bool) (w : List ℕ)
+    → setOf (S .n) (reach S (has (setOf (S .n) X)) w) ≡ setOf (S .n) (reach S X w)
+reach-members S X [] = setOf-has (S .n) _ (setOf-lt (S .n) X)
+reach-members S X (a ∷ w) = ap (λ (Y : ℕ → Bool). setOf (S .n) (reach S Y w)) (fun-ext (step-members S X a))
