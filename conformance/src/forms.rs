@@ -19,8 +19,9 @@ pub const MAX_LEGS: u32 = 1_000_000;
 pub const COUNTS: usize = 3;
 pub const VERDICT: usize = 2;
 pub const POSITION: usize = 1;
-/// How many numbers a whole walk's length is, and the set that a step leads to.
+/// How many numbers a whole walk's length is.
 pub const LENGTH: usize = 1;
+/// How many numbers the set is that a step leads to.
 pub const NEXT: usize = 1;
 
 /// Plan bytes begin with numbers of 16 bits, little-endian; then come starts of one byte and lines.

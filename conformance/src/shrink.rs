@@ -1,4 +1,5 @@
-//! A smaller case that still fails, by simple means: fewer lines, starts, stakes and codes, fewer legs and letters, fewer bits in sets and tables.
+//! A smaller case that still fails, by simple means: fewer lines, starts, stakes and codes, fewer legs and letters, fewer bits in sets
+//! and tables.
 
 use crate::calls::Calls;
 use crate::cases::Case;

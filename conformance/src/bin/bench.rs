@@ -297,7 +297,10 @@ fn main() {
                     sum.wrapping_mul(31).wrapping_add(next[0]).wrapping_add(rounds as u64)
                 })
             };
-            agreed(&|calls| (step(calls) ^ step(calls) >> 32) as u32);
+            agreed(&|calls| {
+                let sum = step(calls);
+                (sum ^ sum >> 32) as u32
+            });
             row(&format!("step, from {from}, {name}"), plan.m, &|calls| {
                 black_box(step(calls));
             });
