@@ -80,8 +80,8 @@ fn smaller_tables(table: &[u64]) -> Vec<Vec<u64>> {
     let mut tables = Vec::new();
     for place in K..table.len() {
         let number = table[place];
-        let less = if place == K { smaller_numbers(number as usize).map(|k| k as u64).collect() } else { smaller_sets(number) };
-        for less in less {
+        let less = if place == K { vec![0, number / 2, number.saturating_sub(1)] } else { smaller_sets(number) };
+        for less in less.into_iter().filter(|&less| less < number) {
             let mut other = table.to_vec();
             other[place] = less;
             tables.push(other);

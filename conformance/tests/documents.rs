@@ -357,7 +357,7 @@ fn steps_of_64_stakes() {
 }
 
 /// Steps along a word from the starts give the stakes reached: a whole walk goes on as long as they lead anywhere, shows no other stakes,
-/// and ends in the last of their sets. Every word of up to five codes on the listed plans that have a start, those without a k too.
+/// and ends in the last of their sets that is not empty. Every word of up to five codes on the listed plans that have a start, those without a k too.
 #[test]
 fn steps_along_a_whole_walk() {
     for calls in common::everyone() {
