@@ -1,6 +1,8 @@
--- Theorem 5: the look-ahead of n states is at most n (n - 1) / 2; with one letter it is at most n - 1.
+-- Theorem 5: the look-ahead of n states, and the need of each set of them, is at most n (n - 1) / 2; with one letter the look-ahead is at
+-- most n - 1.
 -- Assumes nothing.
 use Prim.Native.Nat.{ℕ, zero, suc, _+_, _-_, _*_, _/_, _≤_, _<_}
+use mathlib.Core.Bool.{Bool, true}
 use mathlib.Core.Path.{_≡_, refl, sym, _∙_, ap₂, subst, subst₂}
 use mathlib.Core.Logic.{_⊎_, inl, inr, _≢_}
 use mathlib.Core.List.{List, [], _∷_}
@@ -8,8 +10,8 @@ use native.Mathlib.Omega.{arith}
 use native.Mathlib.Decide.{ℕ-discrete, decLe}
 use lib.ListN.{length, getD}
 use Rattle.semiautomata.specs.Semiautomaton.{Semiautomaton, Within, Path, Spells}
-use Rattle.semiautomata.specs.Predictability.{Share, Lookahead}
-use Rattle.semiautomata.proofs.Shares.{share-swap, share-left, share-shorter, share-after, rivals-lt}
+use Rattle.semiautomata.specs.Predictability.{Share, Clash, SetPredictable, Need, Lookahead}
+use Rattle.semiautomata.proofs.Shares.{share-swap, share-left, share-shorter, share-after, member-lt, rivals-lt}
 use Rattle.semiautomata.proofs.Pairs.{repeats, triangle, triangle-is, unordered, unordered-lt, unordered-inj}
 use Rattle.semiautomata.proofs.Runs.{spell, length-spell, Run, trace, trace-run, run-path, run-lt}
 
@@ -129,18 +131,26 @@ module _ (S : Semiautomaton) (L : ℕ) (c f : ℕ → ℕ) (run-f : Run S L c f)
           states-differ (r .i) (r .j) (r .before) (omega arith) (r .same)
 
 module _ (S : Semiautomaton) (W : Within S) where
-  pub lookahead-bound : (k : ℕ) → Lookahead S k → k ≤ S .n * (S .n - 1) / 2
-  lookahead-bound zero l = omega arith
-  lookahead-bound (suc L) l =
-      let (T, c, h) = l .least L (omega arith) in
-      let (a, b) = rivals-lt W T (h .rivals) in
+  -- a set of states clashes with L letters, and with one more it does not
+  clash-bound : {X : ℕ → Bool} → ((s : ℕ) → X s ≡ true → s < S .n) → {L : ℕ} → Clash S X L → SetPredictable S X (suc L)
+      → suc L ≤ S .n * (S .n - 1) / 2
+  clash-bound below h enough =
       let w = h .shared .word in
       let (x, p) = h .shared .left in
       let (y, q) = h .shared .right in
       rw (triangle-is (S .n), ← h .shared .long)
       (pairs-bound S (length w) (λ i. getD w i 0) (trace S w (h .s) x p) (trace S w (h .t) y q) (trace-run S w (h .s) x p)
       (trace-run S w (h .t) y q)
-      (rw (h .shared .long) λ sh. l .enough T c (record { s = h .s; t = h .t; rivals = h .rivals; shared = sh })) W a b (h .rivals .differ))
+      (rw (h .shared .long) λ sh. enough (record { s = h .s; t = h .t; rivals = h .rivals; shared = sh })) W
+      (below (h .s) (h .rivals .left)) (below (h .t) (h .rivals .right)) (h .rivals .differ))
+
+  pub need-bound : (X : ℕ → Bool) → ((s : ℕ) → X s ≡ true → s < S .n) → (k : ℕ) → Need S X k → k ≤ S .n * (S .n - 1) / 2
+  need-bound X below zero d = omega arith
+  need-bound X below (suc L) d = clash-bound below (d .least L (omega arith)) (d .enough)
+
+  pub lookahead-bound : (k : ℕ) → Lookahead S k → k ≤ S .n * (S .n - 1) / 2
+  lookahead-bound zero l = omega arith
+  lookahead-bound (suc L) l = let (T, c, h) = l .least L (omega arith) in clash-bound (member-lt W T) h (l .enough T c)
 
   module _ (one : S .m ≡ 1) where
     -- with one letter there is one word of each length

@@ -57,13 +57,17 @@ module _ (S : Semiautomaton) where
   pub some-shorter : (j k : ℕ) → j ≤ k → SomeClash S k → SomeClash S j
   some-shorter j k l (T, c, h) = (T, c, clash-shorter l h)
 
-  pub witness-unpredictable : (c : Claim) → Witness S c → Unpredictable S
-  witness-unpredictable c w k p = p (c .set) (w .counts) (record {
+  -- the set of a true claim clashes with any number of letters
+  pub witness-endless : (c : Claim) → Witness S c → (k : ℕ) → ¬ SetPredictable S (member S (c .set)) k
+  witness-endless c w k p = p (record {
     s = c .s;
     t = c .t;
     rivals = record { left = w .s-in; right = w .t-in; differ = omega arith };
     shared = lasso-share S (c .s) (c .t) (c .stem) (c .cycle) (w .turns) (w .s-lasso) (w .t-lasso) k;
   })
+
+  pub witness-unpredictable : (c : Claim) → Witness S c → Unpredictable S
+  witness-unpredictable c w k p = witness-endless c w k (p (c .set) (w .counts))
 
   module _ (W : Within S) where
     pub counts-in : (T : Critical) → Counts S T → counts S T ≡ true

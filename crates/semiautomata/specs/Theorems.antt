@@ -7,8 +7,8 @@ use mathlib.Core.Logic.{_⊎_, _↔_}
 use mathlib.Core.List.{List, _++_}
 use lib.ListN.{length}
 use Rattle.semiautomata.specs.Semiautomaton.{Semiautomaton, Within, Spells, Accessible, Sub}
-use Rattle.semiautomata.specs.Predictability.{Critical, Counts, Share, Clash, SomeClash, SetPredictable, Need, Predictable, Lookahead}
-use Rattle.semiautomata.specs.Predictability.{Unpredictable, Claim, Witness}
+use Rattle.semiautomata.specs.Predictability.{Critical, member, Counts, Share, Clash, SomeClash, SetPredictable, Need}
+use Rattle.semiautomata.specs.Predictability.{Predictable, Lookahead, Unpredictable, Claim, Witness}
 use Rattle.semiautomata.specs.Access.{accessible, trim}
 use Rattle.semiautomata.specs.Wide.{LookaheadWide, UnpredictableWide}
 use Rattle.semiautomata.specs.Levels.{live, counts, clashIn, clash, Repeats}
@@ -32,6 +32,8 @@ pub record Theorems (S : Semiautomaton) : Type 0 where
   -- unpredictable exactly if there is a witness
   pub witness : Within S → Unpredictable S → (c : Claim) × Witness S c
   pub refutes : (c : Claim) → Witness S c → Unpredictable S
+  -- .. and it is the witness's set that no number of letters decides
+  pub refutes-set : (c : Claim) → Witness S c → (k : ℕ) → ¬ SetPredictable S (member S (c .set)) k
   -- k is at most n (n - 1) / 2 (Theorem 5), and at most n - 1 where there is only one letter (Proposition 6)
   pub bound : Within S → (k : ℕ) → Lookahead S k → k ≤ S .n * (S .n - 1) / 2
   pub bound-one-letter : Within S → S .m ≡ 1 → (k : ℕ) → Lookahead S k → k ≤ S .n - 1
@@ -41,6 +43,8 @@ pub record Theorems (S : Semiautomaton) : Type 0 where
   -- the need of one set: there is one at the most, and there is one or the set is k-predictable for no k
   pub need-unique : (X : ℕ → Bool) (j k : ℕ) → Need S X j → Need S X k → j ≡ k
   pub need-either : Within S → (X : ℕ → Bool) → Below S X → ((k : ℕ) × Need S X k) ⊎ ((k : ℕ) → ¬ SetPredictable S X k)
+  -- it is at most n (n - 1) / 2, as the look-ahead is
+  pub need-bound : Within S → (X : ℕ → Bool) → Below S X → (k : ℕ) → Need S X k → k ≤ S .n * (S .n - 1) / 2
   -- a smaller semiautomaton shares no more words, so it needs no more letters
   pub smaller-shares : (L : Semiautomaton) → Sub S L → (j s t : ℕ) → Share S j s t → Share L j s t
   pub smaller-needs : (L : Semiautomaton) → Sub S L → (k : ℕ) → Predictable L k → Predictable S k
