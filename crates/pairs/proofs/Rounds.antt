@@ -2,7 +2,7 @@
 -- Assumes nothing.
 use mathlib.Core.Bool.{Bool, true, false, not, xor, _&&_, true≢false, false≢true, and-false}
 use mathlib.Core.Path.{_≡_, refl, sym, _∙_}
-use mathlib.Core.Logic.{_⊎_, inl, inr}
+use mathlib.Core.Logic.{_⊎_, _↔_, inl, inr}
 use mathlib.Core.List.{List}
 use Prim.Native.Nat.{ℕ, suc, _+_, _*_, _%_, _^_, _≤_, _<_}
 use native.Mathlib.Decide.{decLt}
@@ -20,6 +20,7 @@ use Rattle.bitset.proofs.Tests.{and-in, and-out, not-so, decided, same-test}
 use Rattle.bitset.proofs.Below.{any-in, any-out, any-not, any-none, any-cong, with-any}
 use Rattle.bitset.proofs.Bits.{has-empty, has-high, has-setOf, setOf-lt, some-member, fits, shl-one}
 use Rattle.semiautomata.specs.Semiautomaton.{Semiautomaton, Within}
+use Rattle.semiautomata.specs.Predictability.{Share}
 use Rattle.semiautomata.specs.Levels.{live, Repeats}
 use Rattle.semiautomata.specs.Sizes.{maxSets}
 use Rattle.semiautomata.specs.Successors.{successors, Fit, setAt, Blank}
@@ -29,29 +30,21 @@ use Rattle.semiautomata.proofs.Lassos.{share-ever, live-ever}
 use Rattle.semiautomata.proofs.Successors.{edge-out, edge-is, fit-within}
 use Rattle.rows.specs.Rows.{pair, Without, Union, Common, Apart}
 use Rattle.rows.specs.Turned.{Turned}
-use Rattle.semiautomata.proofs.Places.{place-fits, zeros-at}
-use Rattle.pairs.specs.Sharing.{leads, Sharing, Lasting, Settled}
-use Rattle.pairs.specs.inner.Rounds.{Fits, Level, ledOn, dying, falls, Struck, Paired, Waking}
+use Rattle.semiautomata.proofs.Places.{place-fits, zeros-at, blank}
+use Rattle.pairs.specs.Sharing.{leads, Level, LastLevel, Sharing, Lasting, Settled}
+use Rattle.pairs.specs.inner.Rounds.{Fits, ledOn, dying, falls, Struck, Paired, Waking, Ends, Standing}
 use Rattle.pairs.proofs.Leading.{leads-in, leads-out}
-
--- the struck pairs are those that end at the next level; `gone` is 0 where there is none
-pub record Ends (S : Semiautomaton) (j : ℕ) (struck : List ℕ) (gone : ℕ) : Type 0 where
-  pub is : (s t : ℕ) → s < S .n → t < S .n → pair struck s t ≡ (live S j s t && not (live S (suc j) s t))
-  pub fits : Fits (S .n) struck
-  pub none : gone ≡ 0 → (s t : ℕ) → s < S .n → t < S .n → pair struck s t ≡ false
-  pub some : ¬ (gone ≡ 0) → (s : ℕ) × (t : ℕ) × (s < S .n) × (t < S .n) × (pair struck s t ≡ true)
 
 -- the list of work has each pair of the rows that is led on to no pair of them
 pub record Covers (S : Semiautomaton) (rows look : List ℕ) : Type 0 where
   pub covers : (s t : ℕ) → s < S .n → t < S .n → pair rows s t ≡ true → leads S rows s t ≡ false → pair look s t ≡ true
 
--- what holds before each round: the table is turned round once the first is over
-pub record At (n m : ℕ) (sets rival rows struck back : List ℕ) (gone j : ℕ) : Type 0 where
+-- what holds before each round: what it will strike is known, and the table is turned round once the first is over
+pub record At (n m : ℕ) (sets rows struck back : List ℕ) (gone j : ℕ) : Type 0 where
   pub wide : length rows ≡ 64
   pub level : Level (successors n m 0 sets) j rows
   pub ends : Ends (successors n m 0 sets) j struck gone
-  pub shared : (i : ℕ) → i < j → Sharing (successors n m 0 sets) rival i
-  pub long : length back ≡ 2048
+  pub long : length back ≡ maxSets
   pub fresh : j ≡ 0 → Blank maxSets back
   pub turned : 0 < j → Turned n m sets back
 
@@ -99,10 +92,32 @@ module _ (n m : ℕ) (sets : List ℕ) (F : Fit n m sets) where
   live-sym : (j s t : ℕ) → live S j s t ≡ live S j t s
   live-sym j s t = same-test _ _ (λ e. live-in S W (share-swap (live-out S j s t e))) (λ e. live-in S W (share-swap (live-out S j t s e)))
 
+  -- LEVELS BY THE TEST THAT COMPUTES
+  dies : (j s t : ℕ) → (Share S j s t × ¬ Share S (suc j) s t) ↔ ((live S j s t && not (live S (suc j) s t)) ≡ true)
+  dies j s t = (
+    λ (x, y). rw (live-in S W x, not-so _ (λ e. y (live-out S (suc j) s t e))),
+    λ e.
+        let (x, y) = and-out (live S j s t) _ e in
+        (live-out S j s t x, λ h. false≢true (sym (not-true _ y) ∙ live-in S W h)),
+  )
+
+  module _ {j : ℕ} {rows : List ℕ} where
+    level-by : ((s t : ℕ) → s < n → t < n → pair rows s t ≡ live S j s t) → Level S j rows
+    level-by f = record { is = λ s t hs ht. (λ e. live-out S j s t (sym (f s t hs ht) ∙ e), λ h. f s t hs ht ∙ live-in S W h) }
+
+    level-is : Level S j rows → (s t : ℕ) → s < n → t < n → pair rows s t ≡ live S j s t
+    level-is L s t hs ht = same-test _ _ (λ e. live-in S W (L .is s t hs ht .0 e)) (λ e. L .is s t hs ht .1 (live-out S j s t e))
+
+    last-by : ((s t : ℕ) → s < n → t < n → pair rows s t ≡ (live S j s t && not (live S (suc j) s t))) → LastLevel S j rows
+    last-by f = record { is = λ s t hs ht. (λ e. dies j s t .1 (sym (f s t hs ht) ∙ e), λ d. f s t hs ht ∙ dies j s t .0 d) }
+
+    last-is : LastLevel S j rows → (s t : ℕ) → s < n → t < n → pair rows s t ≡ (live S j s t && not (live S (suc j) s t))
+    last-is L s t hs ht = same-test _ _ (λ e. dies j s t .0 (L .is s t hs ht .0 e)) (λ e. L .is s t hs ht .1 (dies j s t .1 e))
+
   -- the search finds what is live for one letter more
   leads-live : {j : ℕ} {rows : List ℕ} → Level S j rows → (s t : ℕ) → leads S rows s t ≡ live S (suc j) s t
   unfolding leads live
-  leads-live L s t = any-cong m _ _ λ a _. any-cong n _ _ λ r hr. any-cong n _ _ λ u hu. rw (L .is r u hr hu)
+  leads-live L s t = any-cong m _ _ λ a _. any-cong n _ _ λ r hr. any-cong n _ _ λ u hu. rw (level-is L r u hr hu)
 
   -- THE FIRST ROUND, letter by letter
 
@@ -128,10 +143,8 @@ module _ (n m : ℕ) (sets : List ℕ) (F : Fit n m sets) where
 
     pub level-one : Level S 1 rows
     unfolding live
-    level-one = record {
-      is = λ s t hs ht. shares s t ∙ any-cong m _ _ λ a ha.
-          rw (led-on-is a s ha hs, led-on-is a t ha ht) (any-both n (S .edge s a) (S .edge t a));
-    }
+    level-one = level-by λ s t hs ht. shares s t ∙ any-cong m _ _ λ a ha.
+        rw (led-on-is a s ha hs, led-on-is a t ha ht) (any-both n (S .edge s a) (S .edge t a))
 
     pub one-fits : Fits n rows
     one-fits s h = fits n _ λ t g. shares s t ∙ any-none m _ λ a ha. rw (has-high n (ledOn n m sets n a) t (setOf-lt n _) g, and-false)
@@ -146,15 +159,15 @@ module _ (n m : ℕ) (sets : List ℕ) (F : Fit n m sets) where
     -- level 0 has every pair
     pub level-zero : Level S 0 (replicate 64 all)
     unfolding live
-    level-zero = record { is = λ s t hs ht. rw (getD-replicate 64 s all 0 (omega (arith, F .states))) (every t ht) }
+    level-zero = level-by λ s t hs ht. rw (getD-replicate 64 s all 0 (omega (arith, F .states))) (every t ht)
 
     -- what is struck is the rest
     pub first-ends : {rows struck : List ℕ} {gone : ℕ} → Level S 1 rows → Fits n rows → Without (replicate 64 all) rows struck n
         → Union struck gone n → Ends S 0 struck gone
     unfolding xor
     first-ends {rows} {struck} {gone} L f w u = record {
-      is = λ s t hs ht. w .is s t hs
-          ∙ rw (level-zero .is s t hs ht, L .is s t hs ht) (left-is (live S 0 s t) (live S 1 s t) (live-less 0 s t) .0);
+      last = last-by λ s t hs ht. w .is s t hs
+          ∙ rw (level-is level-zero s t hs ht, level-is L s t hs ht) (left-is (live S 0 s t) (live S 1 s t) (live-less 0 s t) .0);
       fits = low;
       none = λ z s t hs ht. any-not n _ (sym (u .is t) ∙ rw z (has-empty t)) s hs;
       some = λ ne. some-pair n (pair struck) gone (u .is) (λ s t h g. has-high n _ t (low s h) g) ne;
@@ -173,7 +186,7 @@ module _ (n m : ℕ) (sets : List ℕ) (F : Fit n m sets) where
       (L : Level S j rows) (C : Covers S rows look) (k : Struck S rows look struck gone n) where
     dying-is : (s t : ℕ) → s < n → t < n → dying S rows look s t ≡ (live S j s t && not (live S (suc j) s t))
     dying-is s t hs ht =
-        struck-is (pair rows s t) (leads S rows s t) (pair look s t) (C .covers s t hs ht) ∙ rw (L .is s t hs ht, leads-live L s t)
+        struck-is (pair rows s t) (leads S rows s t) (pair look s t) (C .covers s t hs ht) ∙ rw (level-is L s t hs ht, leads-live L s t)
 
     -- a pair that ends falls, in one order or the other
     fallen : (s t : ℕ) → s < n → t < n → (live S j s t && not (live S (suc j) s t)) ≡ true
@@ -188,7 +201,7 @@ module _ (n m : ℕ) (sets : List ℕ) (F : Fit n m sets) where
 
     pub round-ends : Ends S j struck gone
     round-ends = record {
-      is = λ s t hs ht. same-test _ _
+      last = last-by {j = j} {rows = struck} λ s t hs ht. same-test _ _
           (λ e. elim (k .only s t e) [
             | inl (h, f) ↦ ends s t hs ht f
             | inr (h, f) ↦ rw (live-sym j s t, live-sym (suc j) s t) (ends t s ht hs f)
@@ -214,23 +227,21 @@ module _ (n m : ℕ) (sets : List ℕ) (F : Fit n m sets) where
 
   module _ {j : ℕ} {struck : List ℕ} {gone : ℕ} (E : Ends S j struck gone) where
     pub level-next : {rows next : List ℕ} → Level S j rows → Without rows struck next n → Level S (suc j) next
-    level-next L w = record {
-      is = λ s t hs ht. w .is s t hs
-          ∙ rw (E .is s t hs ht, L .is s t hs ht) (left-is (live S j s t) (live S (suc j) s t) (live-less j s t) .1);
-    }
+    level-next L w = level-by λ s t hs ht. w .is s t hs
+        ∙ rw (last-is (E .last) s t hs ht, level-is L s t hs ht) (left-is (live S j s t) (live S (suc j) s t) (live-less j s t) .1)
 
     pub covers-next : {rows next back woken : List ℕ} → Level S j rows → Level S (suc j) next → Turned n m sets back
         → Waking m back struck woken n → Covers S next woken
     covers-next {rows} {next} {back} L N T w = record {
       covers = λ s t hs ht x y.
-          let (a, r, u, ha, hr, hu, l) = leads-out S rows s t (leads-live L s t ∙ sym (N .is s t hs ht) ∙ x) in
+          let (a, r, u, ha, hr, hu, l) = leads-out S rows s t (leads-live L s t ∙ sym (level-is N s t hs ht) ∙ x) in
           let dead : live S (suc j) r u ≡ false = not-so _ λ e.
           let on : leads S next s t ≡ true =
-          leads-in S next s t ha hr hu (record { first = l .first; second = l .second; lives = N .is r u hr hu ∙ e }) in
+          leads-in S next s t ha hr hu (record { first = l .first; second = l .second; lives = level-is N r u hr hu ∙ e }) in
           false≢true (sym y ∙ on) in
           let comes : (q x : ℕ) → S .edge q a x ≡ true → has (setAt m back x a) q ≡ true = λ q x e.
           let (hq, ha, f) = edge-out n m 0 sets q a x e in rw (T .is x a ha, has-setOf, lt-ltb q n hq) f in
-          let gone : pair struck r u ≡ true = E .is r u hr hu ∙ rw (sym (L .is r u hr hu) ∙ l .lives, dead) in
+          let gone : pair struck r u ≡ true = last-is (E .last) r u hr hu ∙ rw (sym (level-is L r u hr hu) ∙ l .lives, dead) in
           w .wakes r u a s t hr gone ha (comes s r (l .first)) (comes t u (l .second));
     }
 
@@ -238,16 +249,16 @@ module _ (n m : ℕ) (sets : List ℕ) (F : Fit n m sets) where
     level-repeats : gone ≡ 0 → Repeats S j
     level-repeats z s t hs ht = same-test _ _ (live-less j s t) λ x. elim (decided (live S (suc j) s t)) [
       | inl y ↦ y
-      | inr y ↦ absurd (false≢true (sym (E .none z s t hs ht) ∙ E .is s t hs ht ∙ rw (x, y)))
+      | inr y ↦ absurd (false≢true (sym (E .none z s t hs ht) ∙ last-is (E .last) s t hs ht ∙ rw (x, y)))
     ]
 
-    lasting : {rows : List ℕ} → Level S j rows → gone ≡ 0 → Lasting S rows
+    pub lasting : {rows : List ℕ} → Level S j rows → gone ≡ 0 → Lasting S rows
     lasting L z = record {
       share = λ s t hs ht e i.
           let on : live S (j + i) s t ≡ true =
-          live-fixed S j (level-repeats z) (j + i) (omega arith) s t hs ht ∙ sym (L .is s t hs ht) ∙ e in
+          live-fixed S j (level-repeats z) (j + i) (omega arith) s t hs ht ∙ sym (level-is L s t hs ht) ∙ e in
           share-shorter (omega arith) (live-out S (j + i) s t on);
-      shared = λ s t hs ht f. L .is s t hs ht ∙ live-in S W (f j);
+      shared = λ s t hs ht f. level-is L s t hs ht ∙ live-in S W (f j);
     }
 
     -- some are struck: it is one of the first n × n rounds
@@ -256,16 +267,61 @@ module _ (n m : ℕ) (sets : List ℕ) (F : Fit n m sets) where
       | yes h ↦ h
       | no h ↦
           let (s, t, hs, ht, e) = E .some ne in
-          let (x, y) = and-out (live S j s t) _ (sym (E .is s t hs ht) ∙ e) in
+          let (x, y) = and-out (live S j s t) _ (sym (last-is (E .last) s t hs ht) ∙ e) in
           let long : live S (n * n) s t ≡ true = live-in S W (share-shorter (omega arith) (live-out S j s t x)) in
           absurd (false≢true (rw (live-ever S W s t hs ht long (suc j)) at y))
     ]
 
   -- none is struck, and two rivals live: they do for ever
-  pub stable : {rival rows struck back : List ℕ} {gone j low high : ℕ}
-      → At n m sets rival rows struck back gone j × Common n rows rival low high → gone ≡ 0
-      → Settled S rival (record { stable = true; rounds = j; live = rows; low = low; high = high })
-  stable (i, two) z = ((λ e. absurd (true≢false e)), λ _. (lasting (i .ends) (i .level) z, two))
+  pub stable : {rival rows struck back : List ℕ} {gone j low high : ℕ} → At n m sets rows struck back gone j → Common n rows rival low high
+      → gone ≡ 0 → Settled S rival (record { stable = true; rounds = j; live = rows; low = low; high = high })
+  stable i two z = ((λ e. absurd (true≢false e)), λ _. (lasting (i .ends) (i .level) z, two))
+
+  -- FROM ROUND TO ROUND
+
+  -- the list of work is what the pairs struck in the last round wake
+  pub next-ends : {rounds : ℕ} {live back struck turned look next : List ℕ} {gone : ℕ} → Standing n m sets rounds live back struck
+      → Turned n m sets turned → Waking m turned struck look n → Struck S live look next gone n → Ends S rounds next gone
+  next-ends i is w k =
+      round-ends (i .level) (covers-next (i .ends) (i .was) (rw (i .rounds-is) at (i .level)) is w) k
+
+  pub at-first : {all : ℕ} → all ≡ setOf 64 (λ t. ltb t n) → {struck : List ℕ} {gone : ℕ} → Ends S 0 struck gone
+      → At n m sets (replicate 64 all) struck (replicate 2048 0) gone 0
+  at-first e ends = record {
+    wide = refl;
+    level = level-zero e;
+    ends = ends;
+    long = refl;
+    fresh = λ _. blank _;
+    turned = λ h. absurd (omega arith);
+  }
+
+  -- what the last round struck is taken out
+  module _ {rows struck back : List ℕ} {gone j : ℕ} (i : At n m sets rows struck back gone j) {next : List ℕ} (w : Without rows struck next n) where
+    pub standing : Standing n m sets (suc j) next back struck
+    standing = record {
+      before = j;
+      rounds-is = refl;
+      older = rows;
+      was = i .level;
+      gone = gone;
+      level = level-next (i .ends) (i .level) w;
+      ends = i .ends;
+      long = i .long;
+      fresh = i .fresh;
+      turned = i .turned;
+    }
+
+    pub at-next : {struck′ back′ : List ℕ} {gone′ : ℕ} → Ends S (suc j) struck′ gone′ × (length back′ ≡ maxSets) × Turned n m sets back′
+        → At n m sets next struck′ back′ gone′ (suc j)
+    at-next (e, long, is) = record {
+      wide = w .long ∙ i .wide;
+      level = level-next (i .ends) (i .level) w;
+      ends = e;
+      long = long;
+      fresh = λ z. absurd (omega arith);
+      turned = λ _. is;
+    }
 
   -- RIVALS AMONG THE LIVE PAIRS
 
@@ -277,17 +333,17 @@ module _ (n m : ℕ) (sets : List ℕ) (F : Fit n m sets) where
       order = c .order;
       below = c .below;
       paired = c .rivals;
-      shared = live-out S j high low (sym (L .is high low (c .below) (omega (arith, c .order, c .below))) ∙ c .lives);
+      shared = live-out S j high low (sym (level-is L high low (c .below) (omega (arith, c .order, c .below))) ∙ c .lives);
     }
 
     pub no-sharing : Apart rows rival n → ¬ Sharing S rival j
     no-sharing a h =
-        let e = L .is (h .high) (h .low) (h .below) (omega (arith, h .order, h .below)) ∙ live-in S W (h .shared) in
+        let e = level-is L (h .high) (h .low) (h .below) (omega (arith, h .order, h .below)) ∙ live-in S W (h .shared) in
         a .none (h .high) (h .below) (h .low) (h .order) e (h .paired)
 
   -- a pair that lives for ever is led on to such a pair
   pub lasting-on : {rows : List ℕ} → Lasting S rows → (s t : ℕ) → s < n → t < n → pair rows s t ≡ true → leads S rows s t ≡ true
-  lasting-on {rows} l s t hs ht e = leads-live (record { is = is }) s t ∙ live-in S W (l .share s t hs ht e (suc (n * n)))
+  lasting-on {rows} l s t hs ht e = leads-live (level-by is) s t ∙ live-in S W (l .share s t hs ht e (suc (n * n)))
     where
       is : (s t : ℕ) → s < n → t < n → pair rows s t ≡ live S (n * n) s t
       is s t hs ht = same-test _ _

@@ -1,8 +1,9 @@
 -- Which pairs of states share words: of one letter more, of a number of letters, of every length. A pair is read in the row of its higher
 -- state where the order matters.
 -- Assumes nothing.
-use Prim.Native.Nat.{ℕ, _<_}
+use Prim.Native.Nat.{ℕ, suc, _<_}
 use mathlib.Core.Bool.{Bool, true, false, _&&_}
+use mathlib.Core.Logic.{_↔_}
 use mathlib.Core.Path.{_≡_}
 use mathlib.Core.List.{List}
 use Rattle.bitset.specs.Sets.{any}
@@ -25,7 +26,15 @@ leads S rows s t = any (S .m) λ a. any (S .n) λ r. any (S .n) λ u. S .edge s 
 abbrev pub Led : Semiautomaton → List ℕ → ℕ → ℕ → Step → Type 0
 Led S rows s t r = (r .found ≡ leads S rows s t) × (r .found ≡ true → Leads S rows s t (r .letter) (r .first) (r .second))
 
--- Two different states that are a pair of the rows share a word of j letters.
+-- LEVELS: the rows have exactly the pairs of states that share a word of j letters.
+pub record Level (S : Semiautomaton) (j : ℕ) (rows : List ℕ) : Type 0 where
+  pub is : (s t : ℕ) → s < S .n → t < S .n → (pair rows s t ≡ true) ↔ Share S j s t
+
+-- .. that share a word of j letters, and none of more.
+pub record LastLevel (S : Semiautomaton) (j : ℕ) (rows : List ℕ) : Type 0 where
+  pub is : (s t : ℕ) → s < S .n → t < S .n → (pair rows s t ≡ true) ↔ (Share S j s t × ¬ Share S (suc j) s t)
+
+-- RIVALS: two different states that are a pair of the rows share a word of j letters.
 pub record Sharing (S : Semiautomaton) (rows : List ℕ) (j : ℕ) : Type 0 where
   pub low : ℕ
   pub high : ℕ

@@ -1,14 +1,16 @@
-// The levels of live pairs: which pairs of states of successor sets share a word of 0 letters, of 1, of 2, until no rivals are among them
-// or a round strikes none. The first round goes letter by letter; a later one reads the level before, and looks again only at pairs that
-// a letter leads to a pair struck in the last one. Which pairs are rivals comes in as rows.
+// The levels of live pairs: which pairs of states of successor sets share a word of 0 letters, of 1, of 2. The first round goes letter by
+// letter (`strike_first`); a later one reads the level before, and looks again only at pairs that a letter leads to a pair struck in the
+// last one (`strike_next`). The rounds are made until no rivals are left, which come in as rows, or a round strikes none (`settle`).
 ghost use mathlib.Core.Bool.{not, _&&_};
 ghost use mathlib.Core.Path.{_≡_};
 ghost use Prim.Native.Nat.{_^_, _<_};
 ghost use lib.ListN.{length, replicate};
 ghost use Rattle.bitset.specs.Numbers.{has, setOf};
+ghost use Rattle.semiautomata.specs.Sizes.{maxSets};
 ghost use Rattle.semiautomata.specs.Successors.{successors, Fit};
-ghost use Rattle.pairs.specs.Sharing.{leads, Led, Settled};
-ghost use Rattle.pairs.specs.inner.Rounds.{Fits, Level, ledOn, Struck, Woken, Waking};
+ghost use Rattle.rows.specs.Turned.{Turned};
+ghost use Rattle.pairs.specs.Sharing.{leads, Led, Level, Settled};
+ghost use Rattle.pairs.specs.inner.Rounds.{Fits, ledOn, Struck, Woken, Waking, everyPair, Ends, Standing};
 
 // A letter that leads two states on to a pair of the rows, and that pair.
 pub struct Step {
@@ -155,6 +157,40 @@ fn wake(back: &[u64], n: usize, m: usize, struck: &[u64; 64], look: &mut [u64; 6
     }
 }
 
+// The first round, in rows that have every pair: those are left that share no letter. Answers 0 if there is none.
+fn strike_first(struck: &mut [u64; 64], sets: &[u64], n: usize, m: usize) -> u64
+    requires { ⌜ Fit n m (now sets) × (now struck ≡ everyPair n) ⌝ }
+    ensures { λ r. ⌜ Ends (successors n m 0 (now (sets .entry))) 0 (now (struck .exit)) r ⌝ }
+{
+    let shared = share_letter(sets, n, m);
+    rows::without(struck, n, &shared)
+}
+
+// A later round: of the pairs that live with so many letters, those that share no longer word, in place of those that the last round
+// struck. Answers 0 if there is none. The table is turned round into `back` the first time.
+fn strike_next(
+    struck: &mut [u64; 64],
+    back: &mut [u64; semiautomata::MAX_SETS],
+    sets: &[u64],
+    n: usize,
+    m: usize,
+    rounds: usize,
+    live: &[u64; 64],
+) -> u64
+    requires { ⌜ Fit n m (now sets) × Standing n m (now sets) rounds (now live) (now back) (now struck) ⌝ }
+    ensures { λ r. ⌜ Ends (successors n m 0 (now (sets .entry))) rounds (now (struck .exit)) r
+        × (length (now (back .exit)) ≡ maxSets) × Turned n m (now (sets .entry)) (now (back .exit)) ⌝ }
+{
+    // only a second round needs it
+    if rounds == 1 {
+        rows::turn(back, sets, n, m);
+    }
+    let mut look = [0u64; 64];
+    wake(back, n, m, struck, &mut look);
+    *struck = [0u64; 64];
+    strike(sets, n, m, live, &look, struck)
+}
+
 // What the rounds come to: after `rounds` of them no two rivals share a word of as many letters, or no round strikes one more pair, and
 // low and high are two rivals among the pairs that live for ever.
 pub struct Levels {
@@ -182,10 +218,8 @@ pub fn settle(sets: &[u64], n: usize, m: usize, rival: &[u64; 64]) -> Levels
             high: 0,
         };
     }
-    let shared = share_letter(sets, n, m);
-    // every pair, and then those that share no letter
     let mut struck = [all; 64];
-    let mut gone = rows::without(&mut struck, n, &shared);
+    let mut gone = strike_first(&mut struck, sets, n, m);
     // none is struck: the level repeats, and no table need be cleared
     if gone == 0 {
         return Levels {
@@ -210,14 +244,7 @@ pub fn settle(sets: &[u64], n: usize, m: usize, rival: &[u64; 64]) -> Levels
                 high: 0,
             };
         }
-        // only a second round needs it
-        if rounds == 1 {
-            rows::turn(&mut back, sets, n, m);
-        }
-        let mut look = [0u64; 64];
-        wake(&back, n, m, &struck, &mut look);
-        struck = [0u64; 64];
-        gone = strike(sets, n, m, &live, &look, &mut struck);
+        gone = strike_next(&mut struck, &mut back, sets, n, m, rounds, &live);
     }
     Levels {
         stable: true,

@@ -1,28 +1,29 @@
 -- What the functions of a round promise each other.
 -- Assumes nothing.
-use Prim.Native.Nat.{ℕ, _^_, _<_}
-use mathlib.Core.Bool.{Bool, true, not, _&&_, _||_}
+use Prim.Native.Nat.{ℕ, suc, _^_, _<_}
+use mathlib.Core.Bool.{Bool, true, false, not, _&&_, _||_}
 use mathlib.Core.Logic.{_⊎_}
 use mathlib.Core.Path.{_≡_}
 use mathlib.Core.List.{List}
-use lib.Dec.{leb}
-use lib.ListN.{length, getD}
+use lib.Dec.{leb, ltb}
+use lib.ListN.{length, getD, replicate}
 use Rattle.bitset.specs.Sets.{any}
 use Rattle.bitset.specs.Numbers.{has, setOf}
 use Rattle.semiautomata.specs.Semiautomaton.{Semiautomaton}
 use Rattle.semiautomata.specs.Walks.{step}
-use Rattle.semiautomata.specs.Levels.{live}
-use Rattle.semiautomata.specs.Successors.{successors, setAt}
+use Rattle.semiautomata.specs.Sizes.{maxStates, maxSets}
+use Rattle.semiautomata.specs.Successors.{successors, setAt, Blank}
 use Rattle.rows.specs.Rows.{pair}
-use Rattle.pairs.specs.Sharing.{leads}
+use Rattle.rows.specs.Turned.{Turned}
+use Rattle.pairs.specs.Sharing.{leads, Level, LastLevel}
 
 -- no row has a state n or higher
 abbrev pub Fits : ℕ → List ℕ → Type 0
 Fits n rows = (s : ℕ) → s < n → getD rows s 0 < 2 ^ n
 
--- the rows hold the pairs that are live for j letters
-pub record Level (S : Semiautomaton) (j : ℕ) (rows : List ℕ) : Type 0 where
-  pub is : (s t : ℕ) → s < S .n → t < S .n → pair rows s t ≡ live S j s t
+-- rows with every pair of states below n
+abbrev pub everyPair : ℕ → List ℕ
+everyPair n = replicate maxStates (setOf maxStates (λ t. ltb t n))
 
 -- the states below k that letter a leads on
 abbrev pub ledOn : (n m : ℕ) (sets : List ℕ) (k a : ℕ) → ℕ
@@ -56,3 +57,25 @@ Woken n m back s set old new = Paired old new (setAt m back s) (λ a. setOf n (s
 pub record Waking (m : ℕ) (back struck look : List ℕ) (k : ℕ) : Type 0 where
   pub wakes : (s t a x y : ℕ) → s < k → pair struck s t ≡ true → a < m
       → has (setAt m back s a) x ≡ true → has (setAt m back t a) y ≡ true → pair look x y ≡ true
+
+-- A ROUND
+
+-- a round has struck exactly the pairs that share a word of j letters and none of more; `gone` is 0 where there is none
+pub record Ends (S : Semiautomaton) (j : ℕ) (struck : List ℕ) (gone : ℕ) : Type 0 where
+  pub last : LastLevel S j struck
+  pub fits : Fits (S .n) struck
+  pub none : gone ≡ 0 → (s t : ℕ) → s < S .n → t < S .n → pair struck s t ≡ false
+  pub some : ¬ (gone ≡ 0) → (s : ℕ) × (t : ℕ) × (s < S .n) × (t < S .n) × (pair struck s t ≡ true)
+
+-- where the rounds stand once the pairs that the last one struck are taken out; the table is turned round once a second one is over
+pub record Standing (n m : ℕ) (sets : List ℕ) (rounds : ℕ) (live back struck : List ℕ) : Type 0 where
+  pub before : ℕ
+  pub rounds-is : rounds ≡ suc before
+  pub older : List ℕ
+  pub was : Level (successors n m 0 sets) before older
+  pub level : Level (successors n m 0 sets) rounds live
+  pub gone : ℕ
+  pub ends : Ends (successors n m 0 sets) before struck gone
+  pub long : length back ≡ maxSets
+  pub fresh : before ≡ 0 → Blank maxSets back
+  pub turned : 0 < before → Turned n m sets back
