@@ -1,2 +1,3 @@
 pub mod Sharing
+pub mod Lifetimes
 pub mod inner

@@ -1,6 +1,9 @@
 // The levels of live pairs: which pairs of states of successor sets share a word of 0 letters, of 1, of 2. The first round goes letter by
 // letter (`strike_first`); a later one reads the level before, and looks again only at pairs that a letter leads to a pair struck in the
-// last one (`strike_next`). The rounds are made until no rivals are left, which come in as rows, or a round strikes none (`settle`).
+// last one (`strike_next`). The rounds are made until no rivals are left, which come in as rows, or a round strikes none (`settle`); or
+// until a round strikes none, and how long each pair lives is written down (`lifetimes::write`).
+pub mod lifetimes; // lifetimes.rt: how long each pair lives
+
 ghost use mathlib.Core.Bool.{not, _&&_};
 ghost use mathlib.Core.Path.{_≡_};
 ghost use Prim.Native.Nat.{_^_, _<_};
