@@ -4,7 +4,7 @@ ghost use Rattle.refusals.specs.Groups.{groupOf};
 ghost use Rattle.plan.specs.Bytes.{asked};
 ghost use Rattle.prepare.specs.Preparing.{Draws};
 ghost use Rattle.numbers.specs.Numbers.{groupNumber};
-ghost use Rattle.plan_calls.specs.Promises.{PassesReading, PassesPrepared, PassesCount, PassesCheck, PassesWriting};
+ghost use Rattle.plan_calls.specs.Promises.{PassesReading, PassesPrepared, PassesCount, PassesCheck, PassesWriting, PassesNeeds};
 ghost use Rattle.table_calls.specs.Promises.{PassesStep, PassesWalk, PassesVerdict};
 ghost use Rattle.record_calls.specs.Promises.{PassesOpening, PassesLetter, PassesEnding};
 
@@ -63,6 +63,14 @@ pub extern "C" fn gawherino_write(plan: &[u8], out: &mut [u8]) -> u32
     ensures { λ r. ⌜ PassesWriting (now (plan .entry)) r (now (out .entry)) (now (out .exit)) ⌝ }
 {
     plan_calls::write(plan, out)
+}
+
+// The need of each critical set: how many numbers.
+#[no_mangle]
+pub extern "C" fn gawherino_needs(plan: &[u8], needs: &mut [u16]) -> u32
+    ensures { λ r. ⌜ PassesNeeds (asked (now (plan .entry))) r (now (needs .entry)) (now (needs .exit)) ⌝ }
+{
+    plan_calls::needs(plan, needs)
 }
 
 // CALLS ON A TABLE

@@ -17,6 +17,8 @@ use Rattle.prepare.specs.declared.Prepared.the-variants.{Ready, Refused, Unpred
 use Rattle.prepare.specs.Preparing.{Prepares, CountsTo, outcomeOfPrepared, asNumber}
 use Rattle.filing.specs.declared.Writing.{Writing}
 use Rattle.filing.specs.Writing.{Writes, outcomeOfWriting}
+use Rattle.needs.specs.declared.Needs.{Needs}
+use Rattle.needs.specs.Needs.{NeedsOf, outcomeOfNeeds}
 use Rattle.numbers.specs.Numbers.{Numbers, valued, inNumbers, Passed, PassesOn}
 
 -- THE NUMBERS OF EACH OUTCOME
@@ -38,9 +40,12 @@ ofPrepared a = valued (asNumber (outcomeOfPrepared a)) (evidenceOf a)
 abbrev pub ofChecked : Checked → Numbers
 ofChecked a = inNumbers (λ yes. valued (one-if yes) []) (outcomeOfChecked a)
 
--- How many bytes.
+-- How many bytes, and how many numbers.
 abbrev pub ofWriting : Writing → Numbers
 ofWriting a = inNumbers (λ count. valued count []) (outcomeOfWriting a)
+
+abbrev pub ofNeeds : Needs → Numbers
+ofNeeds a = inNumbers (λ count. valued count []) (outcomeOfNeeds a)
 
 -- THE PROMISES
 
@@ -77,3 +82,8 @@ pub record PassesWriting (plan : List ℕ) (r : ℕ) (old out : List ℕ) : Type
   pub answer : Writing
   pub meets : Writes plan answer old out
   pub passed : Passed (ofWriting answer) r [] []
+
+pub record PassesNeeds (A : Asked) (r : ℕ) (old needs : List ℕ) : Type 0 where
+  pub answer : Needs
+  pub meets : NeedsOf A answer old needs
+  pub passed : Passed (ofNeeds answer) r [] []

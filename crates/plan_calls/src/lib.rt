@@ -1,5 +1,5 @@
 // The calls on plan bytes for C, over plain numbers and lent slices: reading, preparing, the count call, the drawing program's entry, the
-// check of a claim, writing. Where a slice for further values has too few places for the most that a call may have to put there, the
+// check of a claim, writing, the needs of the critical sets. Where a slice for further values has too few places for the most that a call may have to put there, the
 // call is refused with 9 before anything is written.
 ghost use mathlib.Core.Path.{_≡_};
 ghost use Prim.Native.Nat.{_≤_};
@@ -8,11 +8,12 @@ ghost use Rattle.plan.specs.Bytes.{planChecks, asked};
 ghost use Rattle.prepare.specs.Preparing.{Draws};
 ghost use Rattle.numbers.specs.Numbers.{Passed, noRoom};
 ghost use Rattle.plan_calls.specs.Promises.{ofPrepared, claimOf, PassesReading, PassesPrepared, PassesCount, PassesCheck};
-ghost use Rattle.plan_calls.specs.Promises.{PassesWriting};
+ghost use Rattle.plan_calls.specs.Promises.{PassesWriting, PassesNeeds};
 ghost use Rattle.plan_calls.specs.inner.Sizes.{Fit32};
 use claim::Checked;
 use filing::Writing;
 use lookahead::Evidence;
+use needs::Needs;
 use numbers::REFUSED;
 use plan::Reading;
 use prepare::Prepared;
@@ -149,5 +150,16 @@ pub fn write(plan: &[u8], out: &mut [u8]) -> u32
     match written {
         Writing::Bytes(count) => count as u32,
         Writing::Refused(r) => REFUSED + r as u32,
+    }
+}
+
+// The need of each critical set: how many numbers.
+pub fn needs(plan: &[u8], needs: &mut [u16]) -> u32
+    ensures { λ r. ⌜ PassesNeeds (asked (now (plan .entry))) r (now (needs .entry)) (now (needs .exit)) ⌝ }
+{
+    let told = needs::of_plan(plan, needs);
+    match told {
+        Needs::Entries(count) => count as u32,
+        Needs::Refused(r) => REFUSED + r as u32,
     }
 }

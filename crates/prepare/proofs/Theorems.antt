@@ -37,7 +37,7 @@ module _ (A : Asked) (P : Proper A) where
     ready (inl ((p, a), _)) = (clear-passes A P _ p, a)
     ready (inr (_, _, ((p, a), _, _))) = (clear-passes A P _ p, a)
 
-    never : {e : Evidence} → EitherCall A (prepared.Unpredictable e) old letters → Passes A × Shown (A .means) e old letters
+    pub never : {e : Evidence} → EitherCall A (prepared.Unpredictable e) old letters → Passes A × Shown (A .means) e old letters
     never (inl c) = let (p, s) = count-never-so A P c in (clear-passes A P _ p, s)
     never (inr (_, _, c)) = let (p, s, _) = prepare-never-so A P c in (clear-passes A P _ p, s)
 
