@@ -10,7 +10,7 @@ use native.Mathlib.Omega.{arith}
 use lib.Dec.{eqb, ltb}
 use lib.ListN.{length, getD, take}
 use lib.Seq.{take-length}
-use borrow.Author.Tests.{eqb-true, ltb-false}
+use borrow.Author.Tests.{eqb-true, ltb-false, le-ltb}
 use Rattle.bitset.specs.Sets.{any, size}
 use Rattle.bitset.specs.Numbers.{setOf}
 use Rattle.bitset.proofs.Tests.{not-so}
@@ -36,6 +36,13 @@ use Rattle.streaming.specs.Calls.{Result}
 use Rattle.streaming.specs.Calls as reply
 use Rattle.streaming.specs.PlainWalk.{limit}
 use Rattle.streaming.specs.Streaming.{base, sound, soleAt, settle, feed}
+use Rattle.slices.specs.Copying.{atFront}
+use Rattle.plan.proofs.Asked.{refused-passing}
+use Rattle.needs.specs.declared.Needs.{Needs}
+use Rattle.needs.specs.declared.Needs.the-variants as needing
+use Rattle.needs.specs.Needs.{entries, Tells as TellsNeeds, outcomeOfNeeds, NeedsOf}
+use Rattle.needs.proofs.Theorems.{tells-unique}
+use Rattle.needs.proofs.Computed.{tells as tells-needs, tells-so}
 use Rattle.lookahead.specs.declared.Evidence.{Evidence}
 use Rattle.lookahead.specs.Answers.{TrueOf}
 use Rattle.claim.specs.declared.Checked.{Checked}
@@ -46,8 +53,8 @@ use Rattle.deciding.specs.declared.Answer.{Answer}
 use Rattle.deciding.specs.Replies.{said}
 use Rattle.predictor.specs.Calls.{Feeds}
 use Rattle.predictor.proofs.Following as following
-use Rattle.demand.specs.Rows.{Saying, walked, judged, unopened, at-bound, claimed, uncounted, forged, Row, Replied, drawn, IsSo}
-use Rattle.demand.specs.Rows.{AllSo, RowHolds, AllRows, evidence, rows}
+use Rattle.demand.specs.Rows.{Saying, walked, judged, unopened, at-bound, claimed, uncounted, forged, needed, Row, Replied}
+use Rattle.demand.specs.Rows.{drawn, IsSo, AllSo, RowHolds, AllRows, evidence, rows}
 use Rattle.prepare.proofs.Theorems.{theorems as preparing-theorems}
 use Rattle.table.specs.Table.{lettersOf, lookaheadOf, tableMeaning, unfit}
 use Rattle.walks.specs.Walking.{letterOff}
@@ -151,6 +158,20 @@ module _ (plan : List ℕ) (w : WellFormed plan) where
       absurd (false≢true (sym off ∙ accessible-in (meaning plan) W q (counts .0)))
   uncounted-no W q a name off e letters checking.No _ _ _ = refl
 
+-- THE NEEDS, of which there is one list
+
+module _ (plan : List ℕ) (w : WellFormed plan) (numbers : List ℕ) (t : TellsNeeds (meaning plan) numbers) (old needs : List ℕ)
+    (room : length numbers ≤ length old) where
+  needed-so : (a : Needs) → NeedsOf (asked plan) a old needs
+      → (outcomeOfNeeds a ≡ answered (length numbers)) × (needs ≡ atFront numbers old)
+  needed-so (needing.Entries count) (_, (e, f)) = (
+    ap answered (e ∙ sym (t .long)),
+    f .is ∙ ap (λ (numbers : List ℕ). atFront numbers old) (tells-unique (f .numbers) numbers (f .tells) t),
+  )
+  needed-so (needing.Refused r) (e, n, _) =
+      let enough : ltb (length old) (entries (meaning plan)) ≡ false = le-ltb (length old) (entries (meaning plan)) (rw (← t .long) room) in
+      absurd (n (e ∙ refused-passing (asked plan) (asked-proper plan) w _ ∙ rw enough))
+
 not-false : (b : Bool) → not b ≡ false → b ≡ true
 not-false true e = refl
 not-false false e = absurd (false≢true (sym e))
@@ -167,6 +188,7 @@ Computed S (uncounted q a) = (named S q a ≡ some (fork q a)) × (accessible S 
 Computed S (forged bytes letter) =
     (ahead S (some 0) ≡ true) × (ltb (length bytes) heldFrom ≡ false) × (tidy 0 bytes ≡ true)
     × (feed S 0 (decode bytes) letter .reply ≡ reply.refused 14)
+Computed S (needed numbers) = tells-needs S numbers ≡ true
 
 abbrev AllComputed : Semiautomaton → List Saying → Type 0
 AllComputed S [] = Unit {0}
@@ -188,6 +210,8 @@ is-so plan wf W (claimed e letters) c = claimed-yes plan wf e letters c
 is-so plan wf W (uncounted q a) (name, off) = uncounted-no plan wf W q a name off
 is-so plan wf W (forged bytes letter) (zero-k, room, tidied, meets) =
     λ k table left a made. forged-14 plan W k table made bytes letter zero-k room tidied meets left a
+is-so plan wf W (needed numbers) e = λ a old needs room.
+    needed-so plan wf numbers (tells-so (meaning plan) W (asked-proper plan .sized wf .n-high) numbers e) old needs room a
 
 all-so : (plan : List ℕ) → WellFormed plan → Within (meaning plan) → (cs : List Saying) → AllComputed (meaning plan) cs → AllSo plan cs
 all-so plan wf W [] _ = tt
@@ -246,27 +270,27 @@ unfolding any spells step possible walkable greatest longest selector minimalSel
 rows-said = (
   (
     (refl, refl, record { survivors = refl; minimal = refl; nonselected = refl }),
-    ((refl, refl, record { survivors = refl; minimal = refl; nonselected = refl }), ((refl, refl, refl), tt)),
+    ((refl, refl, record { survivors = refl; minimal = refl; nonselected = refl }), ((refl, refl, refl), (refl, tt))),
   ),
   (
-    tt,
+    (refl, tt),
     (
-      ((refl, refl, refl), tt),
+      ((refl, refl, refl), (refl, tt)),
       (
-        ((refl, refl), ((refl, refl, record { survivors = refl; minimal = refl; nonselected = refl }), tt)),
+        ((refl, refl), ((refl, refl, record { survivors = refl; minimal = refl; nonselected = refl }), (refl, tt))),
         (
-          (refl, tt),
+          (refl, (refl, tt)),
           (
-            ((refl, refl, refl), tt),
+            ((refl, refl, refl), (refl, tt)),
             (
-              (refl, ((refl, refl, refl), tt)),
+              (refl, ((refl, refl, refl), (refl, tt))),
               (
-                tt,
+                (refl, tt),
                 (
-                  ((refl, refl, refl), tt),
+                  ((refl, refl, refl), (refl, tt)),
                   (
-                    (twice-named, ((refl, refl), tt)),
-                    ((refl, ((refl, refl), tt)), (((refl, refl, refl, refl), ((refl, refl), tt)), tt)),
+                    (twice-named, ((refl, refl), (refl, tt))),
+                    ((refl, ((refl, refl), (refl, tt))), (((refl, refl, refl, refl), ((refl, refl), (refl, tt))), tt)),
                   ),
                 ),
               ),

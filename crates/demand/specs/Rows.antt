@@ -1,5 +1,5 @@
 -- What the calls answer on plans A to H, as documents 01 and 02 say it, and on plans of our own: the look-ahead, the possible states of a
--- walk, verdicts, opening; claims said yes and no, and a forged record that meets 14 (W-202).
+-- walk, verdicts, opening; claims said yes and no, a forged record that meets 14 (W-202), and the need of each critical set (W-205).
 -- Assumes nothing.
 use Prim.Native.Nat.{ℕ, _+_, _-_, _*_, _/_, _≤_, _<_}
 use mathlib.Core.Bool.{Bool, true, false}
@@ -18,6 +18,9 @@ use Rattle.claim.specs.declared.Checked.the-variants.{Yes, No}
 use Rattle.claim.specs.Checking.{Checks}
 use Rattle.prepare.specs.declared.Prepared.{Prepared}
 use Rattle.prepare.specs.Preparing.{outcomeOfPrepared, Prepares, CountsTo, Draws}
+use Rattle.slices.specs.Copying.{atFront}
+use Rattle.needs.specs.declared.Needs.{Needs}
+use Rattle.needs.specs.Needs.{outcomeOfNeeds, NeedsOf}
 use Rattle.simulate.specs.declared.Verdict.{Verdict}
 use Rattle.simulate.specs.declared.Walked.{Walked}
 use Rattle.simulate.specs.declared.Walked.the-variants.{Upto}
@@ -34,7 +37,7 @@ use Rattle.demand.specs.Demand.{Made}
 -- What is said beside the look-ahead: a walk wholly on the plan, with the possible states at each position; the verdict on a word for the
 -- fork set of a state and a letter; that opening is refused with 13; that the look-ahead is the bound itself; that a claim with these
 -- letters is said yes; that every claim about the fork set of this state and letter is said no; that this letter fed to these record
--- bytes is refused with 14.
+-- bytes is refused with 14; the needs of the critical sets.
 pub data Saying : Type 0 where
   walked : List ℕ → List ℕ → Saying
   judged : ℕ → ℕ → List ℕ → Verdict → Saying
@@ -43,6 +46,7 @@ pub data Saying : Type 0 where
   claimed : Evidence → List ℕ → Saying
   uncounted : ℕ → ℕ → Saying
   forged : List ℕ → ℕ → Saying
+  needed : List ℕ → Saying
 
 -- A sample, and what else is said of it.
 pub record Row : Type 0 where
@@ -73,6 +77,9 @@ IsSo plan (uncounted q a) =
     (e : Evidence) (letters : List ℕ) (r : Checked) → e .state ≡ q → e .letter ≡ a → Checks (asked plan) e letters r → r ≡ No
 IsSo plan (forged bytes letter) =
     (k : ℕ) (table left : List ℕ) (a : Answer) → Made (asked plan) k table → Feeds table bytes letter a left → said a ≡ reply.refused 14
+IsSo plan (needed numbers) =
+    (a : Needs) (old needs : List ℕ) → length numbers ≤ length old → NeedsOf (asked plan) a old needs
+    → (outcomeOfNeeds a ≡ answered (length numbers)) × (needs ≡ atFront numbers old)
 
 abbrev pub AllSo : List ℕ → List Saying → Type 0
 AllSo plan [] = Unit {0}
@@ -103,6 +110,13 @@ abbrev pub evidence : ℕ → ℕ → ℕ → ℕ → ℕ → ℕ → Evidence
 evidence state letter low high stem cycle =
     record { state = state; letter = letter; low = low; high = high; stem = stem; cycle = cycle }
 
+-- The marks of needs: a set that is empty or doesn't count, and one that has none.
+abbrev pub idle : ℕ
+idle = 65534
+
+abbrev pub never : ℕ
+never = 65535
+
 -- Of each sample whose look-ahead is 1 or more a walk is shown with two or more states at a position that exactly k - 1 letters follow
 -- (W-203): of A at position 3, of the others at 0.
 abbrev pub rows : List Row
@@ -111,17 +125,36 @@ rows =
     judged 1 0 [] (verdict 6 false 4)
     ∷ judged 1 0 (0 ∷ []) (verdict 2 true 0)
     ∷ walked (0 ∷ 0 ∷ 0 ∷ []) (1 ∷ 2 ∷ 2 ∷ 6 ∷ [])
+    ∷ needed (0 ∷ 0 ∷ 1 ∷ idle ∷ [])
     ∷ []
     )
-    ∷ row B []
-    ∷ row C (walked (0 ∷ 1 ∷ []) (3 ∷ 4 ∷ 8 ∷ []) ∷ [])
-    ∷ row D (uncounted 1 0 ∷ judged 1 0 [] (verdict 6 false 0) ∷ [])
-    ∷ row E (unopened ∷ [])
-    ∷ row F (walked [] (3 ∷ []) ∷ [])
-    ∷ row G (at-bound ∷ walked (0 ∷ 1 ∷ []) (3 ∷ 6 ∷ 5 ∷ []) ∷ [])
-    ∷ row H []
-    ∷ row C′ (walked (0 ∷ 1 ∷ []) (12 ∷ 2 ∷ 1 ∷ []) ∷ [])
-    ∷ row B′ (claimed (evidence 0 0 0 1 0 1) (0 ∷ []) ∷ uncounted 2 0 ∷ [])
-    ∷ row B″ (unopened ∷ uncounted 0 0 ∷ [])
-    ∷ row D′ (forged (5 ∷ 0 ∷ 0 ∷ 0 ∷ 0 ∷ 0 ∷ 0 ∷ 0 ∷ []) 0 ∷ uncounted 0 0 ∷ [])
+    ∷ row B (needed (0 ∷ never ∷ 0 ∷ []) ∷ [])
+    ∷ row C (
+    walked (0 ∷ 1 ∷ []) (3 ∷ 4 ∷ 8 ∷ [])
+    ∷ needed (3 ∷ 0 ∷ idle ∷ 0 ∷ idle ∷ idle ∷ 0 ∷ idle ∷ idle ∷ [])
+    ∷ []
+    )
+    ∷ row D (uncounted 1 0 ∷ judged 1 0 [] (verdict 6 false 0) ∷ needed (0 ∷ 0 ∷ idle ∷ idle ∷ []) ∷ [])
+    ∷ row E (unopened ∷ needed (idle ∷ idle ∷ []) ∷ [])
+    ∷ row F (walked [] (3 ∷ []) ∷ needed (1 ∷ idle ∷ idle ∷ []) ∷ [])
+    ∷ row G (at-bound ∷ walked (0 ∷ 1 ∷ []) (3 ∷ 6 ∷ 5 ∷ []) ∷ needed (3 ∷ 0 ∷ idle ∷ 0 ∷ 0 ∷ idle ∷ 0 ∷ []) ∷ [])
+    ∷ row H (needed (never ∷ 0 ∷ idle ∷ 0 ∷ idle ∷ idle ∷ 0 ∷ idle ∷ 0 ∷ []) ∷ [])
+    ∷ row C′ (
+    walked (0 ∷ 1 ∷ []) (12 ∷ 2 ∷ 1 ∷ [])
+    ∷ needed (3 ∷ idle ∷ idle ∷ idle ∷ 0 ∷ 0 ∷ idle ∷ 0 ∷ idle ∷ [])
+    ∷ []
+    )
+    ∷ row B′ (
+    claimed (evidence 0 0 0 1 0 1) (0 ∷ [])
+    ∷ uncounted 2 0
+    ∷ needed (0 ∷ never ∷ 0 ∷ idle ∷ [])
+    ∷ []
+    )
+    ∷ row B″ (unopened ∷ uncounted 0 0 ∷ needed (idle ∷ idle ∷ idle ∷ []) ∷ [])
+    ∷ row D′ (
+    forged (5 ∷ 0 ∷ 0 ∷ 0 ∷ 0 ∷ 0 ∷ 0 ∷ 0 ∷ []) 0
+    ∷ uncounted 0 0
+    ∷ needed (0 ∷ idle ∷ idle ∷ idle ∷ idle ∷ [])
+    ∷ []
+    )
     ∷ []

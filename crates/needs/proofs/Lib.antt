@@ -4,3 +4,4 @@ pub mod Entering
 pub mod Answering
 pub mod Largest
 pub mod Theorems
+pub mod Computed

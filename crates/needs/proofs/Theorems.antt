@@ -46,7 +46,7 @@ says-unique {S} {T} {v} {w} a b = elim (ℕ-discrete v unmeasured) [
   ]
 ]
 
-tells-unique : {S : Semiautomaton} (xs ys : List ℕ) → Tells S xs → Tells S ys → xs ≡ ys
+pub tells-unique : {S : Semiautomaton} (xs ys : List ℕ) → Tells S xs → Tells S ys → xs ≡ ys
 tells-unique {S} xs ys a b = ext-getD 0 xs ys (a .long ∙ sym (b .long)) λ i h.
     let (T, o, at) = each-entry S i (rw (a .long) at h) in
     rw at at (says-unique (a .says T o) (b .says T o))
