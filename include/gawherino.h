@@ -1,4 +1,4 @@
-/* Gawherino for C: every call on plans, tables and records, over plain numbers and lent slices. Version 2.1.0.
+/* Gawherino for C: every call on plans, tables and records, over plain numbers and lent slices. Version 2.2.0.
  *
  * USE. The plan's bytes are in plan; the logger gives one code for each leg. No call allocates, so room is lent:
  *
@@ -44,7 +44,7 @@ extern "C" {
 /* The version of this header. A change of a call's parameters, of what it answers, or of the table's or the record's form raises the first
  * number, a further call the second. */
 #define GAWHERINO_VERSION_MAJOR 2
-#define GAWHERINO_VERSION_MINOR 1
+#define GAWHERINO_VERSION_MINOR 2
 #define GAWHERINO_VERSION_PATCH 0
 
 /* ANSWERS */
@@ -64,6 +64,10 @@ static inline uint32_t gawherino_refusal(uint32_t answer)
 #define GAWHERINO_NOTHING 255u
 /* As the stake of a critical set, with code 0: the starts. */
 #define GAWHERINO_STARTS 255u
+
+/* As the need of a critical set: it has none; it is empty or does not count. */
+#define GAWHERINO_ENDLESS 65535u
+#define GAWHERINO_UNMEASURED 65534u
 
 /* Refusals by the plan's author. */
 #define GAWHERINO_BAD_TOTAL 1u       /* fewer than 16 bytes, or the total is not the byte count */
@@ -99,13 +103,15 @@ static inline uint32_t gawherino_refusal(uint32_t answer)
 #define GAWHERINO_MAX_LINES 4096u
 #define GAWHERINO_MAX_PLAN 65535u
 /* What any plan needs at most: its look-ahead k; the numbers of its table, 4 + n * m; the bytes of its record, 8 + k; the bytes for the
- * codes of evidence, n * n; the sets of an ending, k; the bytes of its one form, 16 + p + 3 * e. */
+ * codes of evidence, n * n; the sets of an ending, k; the bytes of its one form, 16 + p + 3 * e; the needs of its critical sets,
+ * n * m + 1. */
 #define GAWHERINO_MAX_LOOKAHEAD 2016u
 #define GAWHERINO_MAX_TABLE 2052u
 #define GAWHERINO_MAX_RECORD 2024u
 #define GAWHERINO_MAX_LETTERS 4096u
 #define GAWHERINO_MAX_SETS 2016u
 #define GAWHERINO_MAX_WRITTEN 12368u
+#define GAWHERINO_MAX_NEEDS 2049u
 /* The most legs of one walk. */
 #define GAWHERINO_MAX_LEGS 1000000u
 
@@ -138,6 +144,7 @@ static inline uint32_t gawherino_refusal(uint32_t answer)
 #define GAWHERINO_STACK_COUNT 40448u
 #define GAWHERINO_STACK_CHECK 16896u
 #define GAWHERINO_STACK_WRITE 16640u
+#define GAWHERINO_STACK_NEEDS 0u
 #define GAWHERINO_STACK_STEP 256u
 #define GAWHERINO_STACK_WALK 256u
 #define GAWHERINO_STACK_JUDGE 512u
@@ -196,6 +203,14 @@ uint32_t gawherino_check(const uint8_t *plan, size_t plan_len, const uint32_t *c
  * starts at 16, ascending, and its lines directly behind them, ascending by from, code and to. Equal n, m, starts and lines give equal
  * bytes, and different ones different bytes. Refused with 1 to 7, 9. */
 uint32_t gawherino_write(const uint8_t *plan, size_t plan_len, uint8_t *out, size_t out_len);
+
+/* The need of each critical set by itself: how many numbers it wrote, n * m + 1; into needs: at 0 that of the starts, at
+ * 1 + stake * m + code that of what the code leads to from the stake. The need of a set is the least number of codes with which no two
+ * different stakes of it can both be walked on by the same codes; a set of one stake needs 0. 65,535 is a set that has none,
+ * 65,534 one that is empty, the starts too, or does not count (a fork of a stake that no walk reaches); no need is higher than 2,016.
+ * Where no number is 65,535, k is the largest of those other than 65,534, or 0 if there is no other; where one is, preparing and the
+ * count answer 15. Refused with 1 to 7, 9, and never with 15. */
+uint32_t gawherino_needs(const uint8_t *plan, size_t plan_len, uint16_t *needs, size_t needs_len);
 
 /* CALLS ON A TABLE */
 
