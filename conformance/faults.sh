@@ -1,7 +1,7 @@
 #!/usr/bin/env bash
 # Deliberate faults: each is put into a copy of the reference, and the comparison with the proved library must catch it.
 # All stand in one copy, which is built once; GAWHERINO_FAULT says which of them is on, and with none the copy must pass. Prints for each
-# fault which tests caught it; the last line says whether all were caught. About a minute. A word as argument tries only the faults that
+# fault which tests caught it; the last line says whether all were caught. A minute or two. A word as argument tries only the faults that
 # have it in their name.
 set -u
 only=${1-}
@@ -70,6 +70,39 @@ fault "write: 9 by the length of the plan given" calls.rs 'lent(out, form.len(),
 fault "write: 9 one byte late" calls.rs 'let form = plan::one_form(&plan::read(plan)?.plan);' 'let mut form = plan::one_form(&plan::read(plan)?.plan); if FAULT && out.len() + 1 == form.len() { form.pop(); }'
 fault "write: 9 before 1 to 7" calls.rs 'fn write(plan: &[u8], out: &mut [u8]) -> Result<u32, Refusal> {' 'fn write(plan: &[u8], out: &mut [u8]) -> Result<u32, Refusal> { if FAULT { lent(out, 16, "out")?; }'
 fault "write: the rest of the buffer cleared" calls.rs 'put(out, &form);' 'put(out, &form); if FAULT { out[form.len()..].fill(0); }'
+fault "a set's first two stakes alone" lookahead.rs 'let stakes = members(set);' 'let mut stakes = members(set); if FAULT { stakes.truncate(2); }'
+fault "needs: every fork counted" lookahead.rs 'reached[stake]));' 'reached[stake] || FAULT));'
+fault "needs: an endless fork counted that no walk reaches" lookahead.rs 'if size(&set) == 0 || !counts {' 'if FAULT && !counts && need(&mut pairs, &set).is_none() { numbers.push(HAS_NONE); continue; } if size(&set) == 0 || !counts {'
+fault "needs: a set counted under every name if it counts under one" lookahead.rs 'for (set, counts) in sets {' 'let every = sets.clone(); for (set, counts) in sets { let counts = counts || (FAULT && every.contains(&(set.clone(), true)));'
+fault "needs: 65,535 for a set that doesn't count" lookahead.rs 'if size(&set) == 0 || !counts {' 'if FAULT && !counts { numbers.push(HAS_NONE); continue; } if size(&set) == 0 || !counts {'
+fault "needs: 0 for empty starts" lookahead.rs 'if size(&set) == 0 || !counts {' 'if FAULT && size(&set) == 0 && numbers.is_empty() { numbers.push(0); continue; } if size(&set) == 0 || !counts {'
+fault "needs: 0 for an empty fork" lookahead.rs 'if size(&set) == 0 || !counts {' 'if FAULT && size(&set) == 0 && counts && !numbers.is_empty() { numbers.push(0); continue; } if size(&set) == 0 || !counts {'
+fault "needs: 65,534 for a set of one stake" lookahead.rs 'if size(&set) == 0 || !counts {' 'if size(&set) <= FAULT as usize || !counts {'
+fault "needs: 65,535 for all behind an endless set" lookahead.rs 'numbers.push(match need(&mut pairs, &set) {' 'if FAULT && numbers.contains(&HAS_NONE) { numbers.push(HAS_NONE); continue; } numbers.push(match need(&mut pairs, &set) {'
+fault "needs: 65,534 for all behind an endless set" lookahead.rs 'numbers.push(match need(&mut pairs, &set) {' 'if FAULT && numbers.contains(&HAS_NONE) { numbers.push(NOT_COUNTED); continue; } numbers.push(match need(&mut pairs, &set) {'
+fault "needs: 65,535 for every set of a plan without k" calls.rs 'lent(needs, numbers.len(), "needs")?;' 'let numbers: Vec<u16> = if FAULT && numbers.contains(&65_535) { numbers.iter().map(|&number| if number == 65_534 { number } else { 65_535 }).collect() } else { numbers }; lent(needs, numbers.len(), "needs")?;'
+fault "needs: 65,534 for an endless set" lookahead.rs 'None => HAS_NONE,' 'None => if FAULT { NOT_COUNTED } else { HAS_NONE },'
+fault "needs: one too large" lookahead.rs 'Some(k) => k as u16,' 'Some(k) => k as u16 + FAULT as u16,'
+fault "needs: one too large for sets of several stakes" lookahead.rs 'Some(k) => k as u16' 'Some(k) if FAULT && k > 0 => k as u16 + 1, Some(k) => k as u16'
+fault "needs: the length of the longest shared word" lookahead.rs 'Some(k) => k as u16' 'Some(k) if FAULT => k.saturating_sub(1) as u16, Some(k) => k as u16'
+fault "needs: a number cut to 8 bits" lookahead.rs 'Some(k) => k as u16' 'Some(k) if FAULT => k as u8 as u16, Some(k) => k as u16'
+fault "needs: stakes and codes exchanged" lookahead.rs 'sets.push((plan.fork(stake, code), ' 'let place = stake * plan.m + code; let (stake, code) = if FAULT { (place % plan.n, place / plan.n) } else { (stake, code) }; sets.push((plan.fork(stake, code), '
+fault "needs: the starts last" calls.rs 'lent(needs, numbers.len(), "needs")?;' 'let numbers = if FAULT { [&numbers[1..], &numbers[..1]].concat() } else { numbers }; lent(needs, numbers.len(), "needs")?;'
+fault "needs: the plan's k for the starts" calls.rs 'lent(needs, numbers.len(), "needs")?;' 'let numbers = if FAULT && numbers[0] != 65_534 { let k = lookahead::largest(&numbers).map_or(65_535, |k| k as u16); [&[k][..], &numbers[1..]].concat() } else { numbers }; lent(needs, numbers.len(), "needs")?;'
+fault "needs: one number less" calls.rs 'let numbers = lookahead::needs(&plan::read(plan)?.plan);' 'let mut numbers = lookahead::needs(&plan::read(plan)?.plan); if FAULT { numbers.pop(); }'
+fault "needs: the forks alone answered" calls.rs 'Ok(numbers.len() as u32)' 'Ok(numbers.len() as u32 - FAULT as u32)'
+fault "needs: 15 for a plan without k" calls.rs 'lent(needs, numbers.len(), "needs")?;' 'lent(needs, numbers.len(), "needs")?; if FAULT && numbers.contains(&65_535) { return refuse(15, "no k"); }'
+fault "needs: no starts refused with 13" calls.rs 'lent(needs, numbers.len(), "needs")?;' 'lent(needs, numbers.len(), "needs")?; if FAULT && !plan::read(plan)?.plan.starts.contains(&true) { return refuse(13, "no starts"); }'
+fault "needs: written as far as is lent, and then 9" calls.rs 'lent(needs, numbers.len(), "needs")?;' 'if FAULT && needs.len() < numbers.len() { let lent = needs.len(); put(needs, &numbers[..lent]); } lent(needs, numbers.len(), "needs")?;'
+fault "needs: 9 one number late" calls.rs 'lent(needs, numbers.len(), "needs")?;' 'let numbers = if FAULT && needs.len() + 1 == numbers.len() { numbers[..needs.len()].to_vec() } else { numbers }; lent(needs, numbers.len(), "needs")?;'
+fault "needs: 9 for n × m + 1 lent" calls.rs 'lent(needs, numbers.len(), "needs")?;' 'lent(needs, numbers.len() + FAULT as usize, "needs")?;'
+fault "needs: 9 before 7" calls.rs 'fn needs(plan: &[u8], needs: &mut [u16]) -> Result<u32, Refusal> {' 'fn needs(plan: &[u8], needs: &mut [u16]) -> Result<u32, Refusal> { if FAULT && plan::read(plan).is_err_and(|refusal| refusal.number == 7) { lent(needs, plan[2] as usize * plan[4] as usize + 1, "needs")?; }'
+fault "needs: the rest of the buffer cleared" calls.rs 'put(needs, &numbers);' 'put(needs, &numbers); if FAULT { needs[numbers.len()..].fill(0); }'
+fault "together: 65,534 for a number" lookahead.rs 'number != NOT_COUNTED' '(FAULT || number != NOT_COUNTED)'
+fault "together: 65,535 passed over" lookahead.rs 'if numbers.contains(&HAS_NONE) {' 'let sound: Vec<u16> = numbers.iter().copied().filter(|&number| !FAULT || number != HAS_NONE).collect(); let numbers = &sound; if numbers.contains(&HAS_NONE) {'
+fault "together: without the starts" lookahead.rs 'let others = numbers.iter()' 'let others = numbers.iter().skip(FAULT as usize)'
+fault "together: the starts alone" lookahead.rs 'let others = numbers.iter()' 'let others = numbers.iter().take(if FAULT { 1 } else { usize::MAX })'
+fault "together: the set behind the one that the evidence names" lookahead.rs '1 + stake as usize * m + code as usize' '1 + FAULT as usize + stake as usize * m + code as usize'
 fault "group: a number cut to 8 bits" mod.rs 'list.contains(&number)' 'list.contains(&if FAULT { number % 256 } else { number })'
 fault "group: caller and logger exchanged" mod.rs 'place as u32 + 1)' 'if FAULT && place > 0 { 4 - place as u32 } else { place as u32 + 1 })'
 fault "in doubt: with k legs behind" doubt.rs 'pairs.share(x, y, legs)' 'pairs.share(x, y, legs + FAULT as usize)'

@@ -144,7 +144,7 @@ static inline uint32_t gawherino_refusal(uint32_t answer)
 #define GAWHERINO_STACK_COUNT 40448u
 #define GAWHERINO_STACK_CHECK 16896u
 #define GAWHERINO_STACK_WRITE 16640u
-#define GAWHERINO_STACK_NEEDS 0u
+#define GAWHERINO_STACK_NEEDS 44032u
 #define GAWHERINO_STACK_STEP 256u
 #define GAWHERINO_STACK_WALK 256u
 #define GAWHERINO_STACK_JUDGE 512u
@@ -152,7 +152,7 @@ static inline uint32_t gawherino_refusal(uint32_t answer)
 #define GAWHERINO_STACK_FEED 256u
 #define GAWHERINO_STACK_FINISH 16384u
 #define GAWHERINO_STACK_GROUP 256u
-#define GAWHERINO_MAX_STACK 40448u
+#define GAWHERINO_MAX_STACK 44032u
 
 /* FORMS
  *

@@ -4,7 +4,8 @@
 use crate::cases::Case;
 use crate::families::Draft;
 use crate::forms::plan::length;
-use crate::forms::{evidence, letters, max_look_ahead, record, table, COUNTS, LENGTH, NEXT, POSITION, REFUSED, STARTS, VERDICT};
+use crate::forms::{evidence, letters, max_look_ahead, needs, record, table};
+use crate::forms::{COUNTS, LENGTH, NEXT, POSITION, REFUSED, STARTS, VERDICT};
 use crate::random::{bytes, claims, plans, records, tables, walks, Random};
 use crate::reference::lookahead::look_ahead;
 use crate::reference::plan::{read, Plan, Read};
@@ -12,6 +13,7 @@ use crate::reference::record::{feed, Record};
 use crate::reference::table::{plan_of, table_of};
 use crate::reference::{claim, size};
 use crate::session::Session;
+use crate::together::Together;
 use crate::waiting::Waiting;
 
 /// A length to lend where `needed` would do: mostly that or more, sometimes one less, rarely none.
@@ -35,6 +37,7 @@ fn plan_calls(r: &mut Random, plan: &[u8], drawn: &Draft) -> Vec<Case> {
         Case::count(plan),
         Case::check(plan, [STARTS, 0, 0, 1, 0, 1].as_slice(), [0u8].as_slice()),
         Case::write(plan, lend(length(drawn.starts.len(), drawn.lines.len()))),
+        Case::needs(plan, lend(needs::length(n, m))),
     ]
 }
 
@@ -59,6 +62,20 @@ fn written(r: &mut Random, drawn: &Draft) -> Vec<Case> {
         let any = r.below(needed + 20);
         let more = needed + r.below(20);
         cases.push(Case::write(&bytes, r.pick(&[needed - 1, needed, needed, more, more, bytes.len(), bytes.len() - 1, any, 0])));
+    }
+    cases
+}
+
+/// The numbers of the sets of the plan that was drawn, now and then among 64 stakes and 32 codes, into buffers around what they need.
+fn needed(r: &mut Random, drawn: &Draft) -> Vec<Case> {
+    let plan = if r.percent(3) { plans::widened(r, drawn) } else { drawn.clone() };
+    let needed = needs::length(plan.n, plan.m);
+    let bytes = bytes::layout(r, &plan);
+    let mut cases = Vec::new();
+    for _ in 0..2 {
+        let any = r.below(needed);
+        let more = needed + r.among(1, 20);
+        cases.push(Case::needs(&bytes, r.pick(&[needed - 1, needed, needed, more, more, any, 0])));
     }
     cases
 }
@@ -168,6 +185,8 @@ pub fn batch(r: &mut Random) -> (Vec<u8>, Vec<Case>) {
         cases.push(r.pick(&calls));
     }
     cases.extend(written(r, &draft));
+    cases.extend(needed(r, &draft));
+    cases.push(Case::Together(Together { plan: bytes.clone() }));
     // claims: true ones with others near to them, those that would be true if every set counted, and any
     let mut claims = vec![claims::any(r, &plan), claims::any(r, &plan)];
     if let Some((evidence, codes)) = claim::example(&plan, &mut |ways| r.below(ways)) {

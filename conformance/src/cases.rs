@@ -1,5 +1,5 @@
-//! A case is one call with all it is lent, a whole session, or how long a plan lets wait; running a call on the reference and on a subject
-//! must give the same reply and the same elements in every lent slice.
+//! A case is one call with all it is lent, a whole session, how long a plan lets wait, or its sets' numbers together; running a call on the
+//! reference and on a subject must give the same reply and the same elements in every lent slice.
 
 use crate::calls::{Calls, Description, CALLS};
 use crate::classes::met;
@@ -8,6 +8,7 @@ use crate::lent::{hex, pattern, Element, Given};
 use crate::reference::calls::{why, Reference};
 use crate::reference::{claim, plan};
 use crate::session::Session;
+use crate::together::Together;
 use crate::waiting::Waiting;
 
 /// One call, with what is given for each parameter of its description.
@@ -22,6 +23,7 @@ pub enum Case {
     Call(Call),
     Session(Session),
     Waiting(Waiting),
+    Together(Together),
 }
 
 /// A reply, and the call with what its slices hold then. Input slices are lent as copies, so that writing into one shows too.
@@ -153,6 +155,7 @@ impl Case {
             Case::Call(call) => call.compare(subject),
             Case::Session(session) => session.compare(subject),
             Case::Waiting(waiting) => waiting.compare(subject),
+            Case::Together(together) => together.compare(subject),
         }
     }
 
@@ -162,6 +165,7 @@ impl Case {
             Case::Call(call) => call.show(),
             Case::Session(session) => session.show(),
             Case::Waiting(waiting) => waiting.show(),
+            Case::Together(together) => together.show(),
         }
     }
 }

@@ -2,9 +2,9 @@
 //! nothing about it.
 
 use crate::cases::{Call, Outcome};
-use crate::forms::plan::{length, number, E, HEADER, LINE, LINES_AT, P, STARTS_AT, TOTAL};
+use crate::forms::plan::{length, number, E, HEADER, LINE, LINES_AT, M, N, P, STARTS_AT, TOTAL};
 use crate::forms::record::{legs, BOOKED};
-use crate::forms::{table, GROUPS, MAX_LINES, MAX_STAKES, NOTHING, REFUSED, STARTS};
+use crate::forms::{max_look_ahead, needs, table, GROUPS, MAX_CODES, MAX_LINES, MAX_STAKES, NOTHING, REFUSED, STARTS};
 use crate::reference::claim::holds_of_any_set;
 use crate::reference::lookahead::{least, look_ahead};
 use crate::reference::plan::{read, Name, Plan};
@@ -28,7 +28,9 @@ pub fn met(call: &Call, outcome: &Outcome, why: &str) -> Vec<String> {
     let name = call.what.name;
     let further = match (name, outcome.reply.checked_sub(REFUSED)) {
         ("write", None) => to_write(call.slice("plan"), outcome.left.slice::<u8>("out").len()),
-        ("write", Some(9)) => too_short(call.slice("plan"), outcome.left.slice::<u8>("out").len()),
+        ("write", Some(9)) => too_short(form_of(call.slice("plan")), outcome.left.slice::<u8>("out").len()),
+        ("needs", None) => numbered(&plan_given(call), outcome.left.slice("needs"), outcome.reply as usize),
+        ("needs", Some(9)) => too_short(numbers_of(call.slice("plan")), outcome.left.slice::<u16>("needs").len()),
         ("prepare" | "look_ahead" | "count", None | Some(15)) => narrowed(&plan_given(call), outcome.reply),
         ("check", None) => claimed(&plan_given(call), call.slice("claim"), call.slice("letters")),
         ("step", None) => stepped(call, outcome.left.slice("next")[0]),
@@ -71,9 +73,17 @@ fn to_write(plan: &[u8], lent: usize) -> Vec<&'static str> {
     ])
 }
 
-/// Of a plan that was refused with 9 at writing: by how much.
-fn too_short(plan: &[u8], lent: usize) -> Vec<&'static str> {
-    let needed = length(number(plan, P), number(plan, E));
+/// How many bytes the one form of a plan has, and how many numbers its sets have.
+fn form_of(plan: &[u8]) -> usize {
+    length(number(plan, P), number(plan, E))
+}
+
+fn numbers_of(plan: &[u8]) -> usize {
+    needs::length(number(plan, N), number(plan, M))
+}
+
+/// Of a plan that was refused with 9 where its form or its numbers were to be written: by how much.
+fn too_short(needed: usize, lent: usize) -> Vec<&'static str> {
     applying(&[("9: short by one", lent + 1 == needed), ("9: nothing lent", lent == 0)])
 }
 
@@ -124,6 +134,35 @@ fn claimed(plan: &Plan, claim: &[u32], letters: &[u8]) -> Vec<&'static str> {
         ("no by an unreachable stake's name alone", !yes),
         ("no, though the set counts under another name", !yes && otherwise),
         ("yes to a set that an unreachable stake names too", yes && otherwise),
+    ])
+}
+
+/// W-205, of the numbers of a plan's sets: which of them stand beside which others, and how much was lent.
+fn numbered(plan: &Plan, lent: &[u16], written: usize) -> Vec<&'static str> {
+    let numbers = &lent[..written];
+    let reached = plan.reached();
+    let (counted, abandoned): (Vec<_>, Vec<_>) =
+        plan.every_set().into_iter().partition(|((stake, _), _)| *stake == STARTS || reached[*stake as usize]);
+    let is_some = |number: &u16| (1..needs::UNMEASURED).contains(number);
+    let is_endless = |number: &u16| *number == needs::ENDLESS;
+    let (first, last) = (numbers.iter().position(is_endless), numbers.iter().rposition(is_endless));
+    let some: Vec<&u16> = numbers.iter().filter(|number| is_some(number)).collect();
+    let bound = max_look_ahead(plan.n);
+    let mut twice = counted.iter().filter(|(_, set)| abandoned.iter().any(|(_, other)| other == set));
+    let is_largest = plan.n == MAX_STAKES && plan.m == MAX_CODES;
+    applying(&[
+        ("a number of 1 or more behind an endless set", first.is_some_and(|first| numbers[first..].iter().any(is_some))),
+        ("a number of 1 or more before an endless set", last.is_some_and(|last| numbers[..last].iter().any(is_some))),
+        ("the starts endless, a fork with 1 or more", first == Some(needs::STARTS) && !some.is_empty()),
+        ("different numbers of 1 or more", some.iter().min() != some.iter().max()),
+        ("an abandoned fork of several stakes", abandoned.iter().any(|(_, set)| size(set) > 1)),
+        ("a set that counts under one name and not under another", twice.any(|(_, set)| size(set) > 1)),
+        ("no starts, but lines", size(&plan.starts) == 0 && !abandoned.is_empty()),
+        ("n(n-1)/2 of three or more stakes", plan.n > 2 && some.iter().any(|&&k| k as usize == bound)),
+        ("64 stakes and 32 codes", is_largest),
+        ("64 stakes and 32 codes, the last fork with 1 or more", is_largest && numbers.last().is_some_and(is_some)),
+        ("room for the numbers alone", lent.len() == written),
+        ("more room", lent.len() > written),
     ])
 }
 
@@ -187,6 +226,17 @@ fn class(Outcome { reply, left }: &Outcome, why: &str) -> String {
         "check" => ["no", "yes"][reply as usize],
         "write" if left.slice::<u8>("plan") == &left.slice::<u8>("out")[..reply as usize] => "in its form already",
         "write" => "put into its form",
+        "needs" => {
+            let numbers = &left.slice::<u16>("needs")[..reply as usize];
+            let endless = numbers.iter().filter(|&&number| number == needs::ENDLESS).count();
+            match (endless, numbers.iter().filter(|&&number| number < needs::UNMEASURED).max()) {
+                (0, None) => "no number",
+                (0, Some(&k)) => count_class(k as u32),
+                (_, None) => "endless sets alone",
+                (1, _) => "one endless set among others",
+                _ => "several endless sets among others",
+            }
+        }
         "step" => match (reply, left.slice::<u64>("next")[0].count_ones()) {
             (0, _) => "from the empty set",
             (_, 0) => "to nowhere",
@@ -275,7 +325,7 @@ const NARROWED: &[&str] = &[
 ];
 const EVIDENCE: &[&str] = &["9: letters", "9: evidence"];
 
-/// For each call, and for sessions and waiting: every answer and every refusal, with each part of a refusal's sentence.
+/// For each call, and for sessions, waiting and sets together: every answer and every refusal, with each part of a refusal's sentence.
 const CLASSES: &[(&str, &[&[&str]])] = &[
     ("read", &[PLAN, &["counts", "9: counts"]]),
     ("prepare", &[PLAN, &["9: table"], EVIDENCE, COUNT, NO_COUNT, NARROWED]),
@@ -288,6 +338,13 @@ const CLASSES: &[(&str, &[&[&str]])] = &[
     ("write", &[&["a gap before the parts", "a gap between the parts", "a gap behind the parts"]]),
     ("write", &[&["no starts", "no lines", "neither starts nor lines", "64 starts", "4,096 lines"]]),
     ("write", &[&["room for the form alone", "more room", "less room than the plan has bytes"]]),
+    ("needs", &[PLAN, &["9: needs", "9: short by one", "9: nothing lent", "no number"], COUNT]),
+    ("needs", &[&["endless sets alone", "one endless set among others", "several endless sets among others"]]),
+    ("needs", &[&["a number of 1 or more behind an endless set", "a number of 1 or more before an endless set"]]),
+    ("needs", &[&["the starts endless, a fork with 1 or more", "different numbers of 1 or more"]]),
+    ("needs", &[&["an abandoned fork of several stakes", "a set that counts under one name and not under another"]]),
+    ("needs", &[&["no starts, but lines", "n(n-1)/2 of three or more stakes", "room for the numbers alone", "more room"]]),
+    ("needs", &[&["64 stakes and 32 codes", "64 stakes and 32 codes, the last fork with 1 or more"]]),
     ("step", &[TABLE, &["9: next", "12: the code not below m", "12: the code above 255", "12: the set's bit n or higher"]]),
     ("step", &[&["12: the code alone, m itself", "12: bit n alone", "12: a stake and bit n", "12: a bit above n"]]),
     ("step", &[&["from the empty set", "to nowhere", "from one stake", "from several stakes to as many"]]),
@@ -312,6 +369,7 @@ const CLASSES: &[(&str, &[&[&str]])] = &[
     ("waiting in doubt", &[&["at position 0", "at a later position", "between three or more stakes", "until the next leg"]]),
     ("waiting in doubt,", &[&["though a later position has one stake", "a larger k if every set counted", "15 if every set counted"]]),
     ("waiting with a position certain,", &[COUNT]),
+    ("together", &[COUNT, &["k 0, no number", "15, the starts named", "15, a fork named", "15 by one set alone", "15 by several sets"]]),
 ];
 
 /// Every class that a run must meet.

@@ -113,6 +113,21 @@ pub mod evidence {
     pub const NUMBERS: usize = 6;
 }
 
+/// The look-ahead of each critical set by itself (W-205).
+pub mod needs {
+    /// In a number's place: the set has no look-ahead.
+    pub const ENDLESS: u16 = 65_535;
+    /// In a number's place: the set is empty or does not count.
+    pub const UNMEASURED: u16 = 65_534;
+    /// The starts' number, then from here on the fork's at stake × m + code.
+    pub const STARTS: usize = 0;
+    pub const FORKS: usize = 1;
+
+    pub const fn length(n: usize, m: usize) -> usize {
+        FORKS + n * m
+    }
+}
+
 /// The bytes for the codes of evidence.
 pub const fn letters(n: usize) -> usize {
     n * n

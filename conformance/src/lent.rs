@@ -63,6 +63,7 @@ macro_rules! elements {
 // An element's type here and in C, and how one is made of 64 bits. A struct, if it is repr(C), needs no more than its line either.
 elements! {
     U8: u8, "uint8_t", |bits| (bits >> 56) as u8;
+    U16: u16, "uint16_t", |bits| (bits >> 48) as u16;
     U32: u32, "uint32_t", |bits| (bits >> 32) as u32;
     U64: u64, "uint64_t", |bits| bits;
 }

@@ -15,4 +15,5 @@ pub mod reference;
 pub mod session;
 pub mod shrink;
 pub mod tally;
+pub mod together;
 pub mod waiting;

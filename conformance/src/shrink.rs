@@ -9,6 +9,7 @@ use crate::forms::table::K;
 use crate::forms::MAX_STAKES;
 use crate::lent::{Element, Given};
 use crate::session::Session;
+use crate::together::Together;
 use crate::waiting::Waiting;
 use std::time::{Duration, Instant};
 
@@ -68,6 +69,11 @@ fn smaller_plans(bytes: &[u8]) -> Vec<Vec<u8>> {
     smaller
 }
 
+/// n × m of plan bytes that have a header.
+fn forks(plan: &[u8]) -> usize {
+    number(plan, N) * number(plan, M)
+}
+
 /// Smaller sets: the empty one, and all but the lowest stake.
 fn smaller_sets(set: u64) -> Vec<u64> {
     let mut sets = vec![0, set & set.wrapping_sub(1)];
@@ -121,15 +127,18 @@ fn smaller(case: &Case) -> Vec<Case> {
                     let mut other = call.clone();
                     other.given[place] = given;
                     cases.push(Case::Call(other.clone()));
-                    // and with so much less room too, for what is written of it
+                    // and with so much less room too, for what is written of it, or for a number of each fork
                     if let (Given::U8(before), Given::U8(now)) = (&call.given[place], &other.given[place]) {
-                        let fewer = before.len() - now.len();
-                        for given in &mut other.given {
-                            if let Given::Room(length) = given {
-                                *length = length.saturating_sub(fewer);
+                        let forks = if parameter.name == "plan" { forks(before).saturating_sub(forks(now)) } else { 0 };
+                        for fewer in [before.len() - now.len(), forks].into_iter().filter(|&fewer| fewer > 0) {
+                            let mut less = other.clone();
+                            for given in &mut less.given {
+                                if let Given::Room(length) = given {
+                                    *length = length.saturating_sub(fewer);
+                                }
                             }
+                            cases.push(Case::Call(less));
                         }
-                        cases.push(Case::Call(other));
                     }
                 }
             }
@@ -146,6 +155,7 @@ fn smaller(case: &Case) -> Vec<Case> {
             let plans = smaller_plans(&waiting.plan).into_iter().map(|plan| Waiting { plan, ..waiting.clone() });
             walks.chain(plans).map(Case::Waiting).collect()
         }
+        Case::Together(together) => smaller_plans(&together.plan).into_iter().map(|plan| Case::Together(Together { plan })).collect(),
     }
 }
 

@@ -75,20 +75,20 @@ fn plain_rust() {
     run(&conformance::plain::Plain, common::seconds() / 4, 0);
 }
 
-/// Sessions, waiting and evidence apart, the reference can only agree with itself; sessions hold its record to the plain walk, and waiting
-/// its count to the possible stakes.
+/// Sessions, waiting, sets together and evidence apart, the reference can only agree with itself; sessions hold its record to the plain
+/// walk, waiting its count to the possible stakes, and sets together their numbers to the count.
 #[test]
 fn the_reference_itself() {
     let seed = common::seed();
     let mut tally = Tally::default();
     for number in 0..2000 {
         for case in batch(&mut Random::new(seed, number)).1 {
-            if matches!(case, Case::Session(_) | Case::Waiting(_)) {
+            if matches!(case, Case::Session(_) | Case::Waiting(_) | Case::Together(_)) {
                 check(&case, &conformance::reference::calls::Reference, &mut tally, &format!("GAWHERINO_SEED={seed} case {number}"));
             }
         }
     }
-    assert!(tally.cases > 2500, "only {} sessions and waits", tally.cases);
+    assert!(tally.cases > 4500, "only {} sessions, waits and sets together", tally.cases);
 }
 
 /// On two threads at once: "nothing is kept between calls, so that different threads may call at once".

@@ -6,7 +6,7 @@ use common::words;
 use conformance::random::{bytes, claims, plans, Random};
 use conformance::reference::claim;
 use conformance::reference::doubt::in_doubt;
-use conformance::reference::lookahead::{least, look_ahead};
+use conformance::reference::lookahead::{entry, largest, least, look_ahead, needs};
 use conformance::reference::plan::{one_form, read, Plan};
 use conformance::reference::record::{feed, Record};
 use conformance::reference::walk::{possible, reach, step_from, verdict, whole_walk};
@@ -97,6 +97,44 @@ fn the_count_is_the_least_number_without_a_shared_word() {
     }
     println!("tiny plans with k 0, 1, ..: {found:?}; without: {none}");
     assert!(none > 100 && found[..5].iter().all(|&count| count > 0));
+}
+
+/// W-205 with all words of a length tried on each set by itself: "the least k for which no two of its different stakes share a word of k
+/// codes", 65,535 if there is none up to n(n-1)/2, 65,534 if the set "is empty or doesn't count by W-202"; "first the starts, then stake by
+/// stake and code by code". And what the numbers together say of the plan's k, which is counted word by word over all sets that count.
+#[test]
+fn the_number_of_each_set_by_itself() {
+    let (mut found, mut none, mut beside, mut several, mut empty, mut abandoned) = ([0; 11], 0, 0, 0, 0, 0);
+    for (number, _, plan) in tiny_plans(8000) {
+        let (every, counting) = (every_literal_set(&plan), literal_sets(&plan, &literal_reached(&plan)));
+        let mut names = vec![(255, 0)];
+        for stake in 0..plan.n as u32 {
+            names.extend((0..plan.m as u32).map(|code| (stake, code)));
+        }
+        let mut expected = Vec::new();
+        for name in &names {
+            let has_name = |set: &&Named| set.0 == *name && !set.1.is_empty();
+            expected.push(match counting.iter().find(has_name) {
+                Some(set) => literal_count(&plan, std::slice::from_ref(set)).map_or(65_535, |k| k as u16),
+                None => 65_534,
+            });
+            empty += !every.iter().any(|set| has_name(&set)) as u32;
+            abandoned += (every.iter().any(|set| has_name(&set)) && !counting.iter().any(|set| has_name(&set))) as u32;
+        }
+        assert_eq!(needs(&plan), expected, "case {number}: {plan:?}");
+        assert!(names.iter().enumerate().all(|(place, &name)| entry(name, plan.m) == place), "case {number}: {plan:?}");
+        let count = literal_count(&plan, &counting);
+        assert_eq!(largest(&expected), count, "case {number}: {plan:?}");
+        let endless = expected.iter().filter(|&&number| number == 65_535).count();
+        beside += (endless > 0 && expected.iter().any(|number| (1..65_534).contains(number))) as u32;
+        several += (endless > 1) as u32;
+        none += endless;
+        expected.iter().filter(|&&number| number < 65_534).for_each(|&number| found[number as usize] += 1);
+    }
+    println!("sets of tiny plans with 0, 1, ..: {found:?}; without: {none}; empty: {empty}; abandoned: {abandoned}");
+    println!("plans with a number of 1 or more beside an endless set: {beside}; with several endless sets: {several}");
+    assert!(none > 1000 && empty > 1000 && abandoned > 500 && beside > 100 && several > 100);
+    assert!(found[..4].iter().all(|&count| count > 50) && found[4] > 0);
 }
 
 /// W-203 with walks written out, as the codes before a position and those behind it. The possible stakes there are those that the first

@@ -14,6 +14,7 @@ use conformance::reference::doubt::in_doubt;
 use conformance::reference::plan::read;
 use conformance::session::Session;
 use conformance::shrink::fail;
+use conformance::together::Together;
 use conformance::waiting::Waiting;
 
 /// A prepared plan, or the refusal.
@@ -26,7 +27,8 @@ fn prepared(calls: &dyn Calls, plan: &Draft) -> Result<(u32, Vec<u64>), u32> {
     Ok((reply, table))
 }
 
-/// k or the refusal, by all three calls that count, and by reading; under 15 the evidence is checked. The k is the least by walks too.
+/// k or the refusal, by all three calls that count, and by reading; under 15 the evidence is checked. The k is the least by walks too, and
+/// the numbers of the sets say the same.
 fn counted(calls: &dyn Calls, plan: &Draft, expected: Result<u32, u32>, name: &str) {
     let bytes = plan.bytes();
     let (n, m) = (plan.n, plan.m);
@@ -35,6 +37,8 @@ fn counted(calls: &dyn Calls, plan: &Draft, expected: Result<u32, u32>, name: &s
         Case::look_ahead(&bytes, letters(n), evidence::NUMBERS),
         Case::count(&bytes),
         Case::Waiting(Waiting { plan: bytes.clone(), seed: common::seed(), beyond: 3 }),
+        Case::needs(&bytes, needs::length(n, m) + 1),
+        Case::Together(Together { plan: bytes.clone() }),
     ] {
         case.compare(calls).unwrap_or_else(|message| fail(&case, calls, message, name));
     }
@@ -252,6 +256,9 @@ fn numbers_of_the_header() {
         ("MAX_LETTERS", letters(MAX_STAKES)),
         ("MAX_SETS", k),
         ("MAX_WRITTEN", plan::length(MAX_STAKES, MAX_LINES)),
+        ("MAX_NEEDS", needs::length(MAX_STAKES, MAX_CODES)),
+        ("ENDLESS", needs::ENDLESS as usize),
+        ("UNMEASURED", needs::UNMEASURED as usize),
         ("MAX_LEGS", MAX_LEGS as usize),
         ("REFUSED", REFUSED as usize),
         ("NOTHING", NOTHING as usize),
@@ -580,6 +587,7 @@ fn sizes_that_are_only_run() {
             Case::count(&many),
             Case::check(&many, [STARTS, 0, 0, 1, 0, 1].as_slice(), [0u8].as_slice()),
             Case::write(&many, plan::length(1, 4097)),
+            Case::needs(&many, needs::length(64, 4)),
         ] {
             case.compare(calls).unwrap_or_else(|message| fail(&case, calls, message, "e 4,097"));
         }
@@ -630,6 +638,11 @@ fn one_set_under_several_names() {
             counted(calls, &plan, if counting.contains(&true) { Err(15) } else { Ok(0) }, &format!("from {starts:?}"));
             let said = claims.map(|claim| said_yes(calls, &plan, claim, &[0]));
             assert_eq!(said, counting, "from {starts:?} by {}", calls.name());
+            // W-205: by each name that counts the set has 65,535; else it has 65,534, and starts of up to one stake have what they have
+            let numbers = numbers_of(calls, &plan);
+            let endless = [numbers[0], numbers[1], numbers[1 + 3 * 2 + 1]].map(|number| number == NONE);
+            assert_eq!(endless, counting, "from {starts:?} by {}", calls.name());
+            assert!([1, 1 + 3 * 2 + 1].iter().all(|&place| [NONE, OUT].contains(&numbers[place])), "from {starts:?} by {}", calls.name());
         }
         // the reachable name taken away with one of its lines
         let plan = draft(4, 2, &[0], &[&lines[..1], &lines[2..]].concat());
@@ -645,6 +658,7 @@ fn no_starts_but_lines() {
         for (name, with_starts, _) in listed() {
             let plan = Draft { starts: vec![], ..with_starts };
             counted(calls, &plan, Ok(0), &format!("{name} without starts"));
+            assert_eq!(numbers_of(calls, &plan), vec![OUT; plan.n * plan.m + 1], "{name} without starts");
             let (_, table) = prepared(calls, &plan).expect("k 0");
             assert_eq!(calls.open(&table, &mut [0; 8], &mut [0]), REFUSED + 13, "{name} without starts");
             assert_eq!(calls.walk(&table, &[], &mut [0], &mut [0]), REFUSED + 13, "{name} without starts");
@@ -721,12 +735,16 @@ fn a_fork_behind_a_chain() {
                 counted(calls, &made(&chain, &fork), Ok(1), "a whole chain");
                 counted(calls, &made(&chain, &clash), Err(15), "a whole chain");
                 assert!(said_yes(calls, &made(&chain, &clash), claim, &[1]), "{order:?} by {}", calls.name());
+                // the fork's own number
+                let number = |plan: &Draft| numbers_of(calls, plan)[1 + last as usize * 2 + 1];
+                assert_eq!([&fork[..], &clash].map(|fork| number(&made(&chain, fork))), [1, NONE], "{order:?} by {}", calls.name());
                 for missing in 0..chain.len() {
                     let (before, after) = (&chain[..missing], &chain[missing + 1..]);
                     let cut = [before, after].concat();
                     assert_eq!(calls.count(&made(&cut, &fork).bytes()), 0, "{order:?} by {}", calls.name());
                     assert_eq!(calls.count(&made(&cut, &clash).bytes()), 0, "{order:?} by {}", calls.name());
                     assert!(!said_yes(calls, &made(&cut, &clash), claim, &[1]), "{order:?} by {}", calls.name());
+                    assert_eq!(number(&made(&cut, &clash)), OUT, "{order:?} by {}", calls.name());
                 }
             }
         }
@@ -862,16 +880,15 @@ fn one_form_to_file() {
     }
 }
 
-/// W-201: "a plan that passes 1 to 7"; one that does not is refused with the lowest of them that applies, also where the buffer is short.
-#[test]
-fn plans_that_are_not_written() {
+/// Plan A with a part of each of 1 to 7 done to it, and its number.
+fn refused_plans() -> Vec<(u32, Vec<u8>)> {
     let a = plan_a().bytes();
     let changed = |place: usize, byte: u8| {
         let mut bytes = a.clone();
         bytes[place] = byte;
         bytes
     };
-    let refused = [
+    vec![
         (1, a[..15].to_vec()),
         (1, a[..25].to_vec()),
         (2, changed(0, 2)),
@@ -887,7 +904,13 @@ fn plans_that_are_not_written() {
         (6, changed(20, 3)),
         (6, changed(21, 1)),
         (7, changed(25, 1)),
-    ];
+    ]
+}
+
+/// W-201: "a plan that passes 1 to 7"; one that does not is refused with the lowest of them that applies, also where the buffer is short.
+#[test]
+fn plans_that_are_not_written() {
+    let refused = refused_plans();
     for calls in common::everyone() {
         for (number, plan) in &refused {
             for lent in [0, 1, 25, 26, 100] {
@@ -954,6 +977,232 @@ fn equal_and_different_plans() {
         let meanings: std::collections::BTreeSet<_> = forms.values().collect();
         assert_eq!(meanings.len(), forms.len(), "equal plans give different bytes by {}", calls.name());
         assert!(forms.len() > 300);
+    }
+}
+
+/// W-205: "65,535 means that this set has none, 65,534 that it is empty or doesn't count by W-202".
+const NONE: u16 = 65_535;
+const OUT: u16 = 65_534;
+
+/// The numbers of a plan's sets, into a buffer that is longer than needed and keeps its rest.
+fn numbers_of(calls: &dyn Calls, plan: &Draft) -> Vec<u16> {
+    let length = plan.n * plan.m + 1;
+    let mut numbers: Vec<u16> = pattern(length + 3);
+    assert_eq!(calls.needs(&plan.bytes(), &mut numbers), length as u32, "by {}", calls.name());
+    assert_eq!(numbers[length..], pattern::<u16>(length + 3)[length..], "the rest by {}", calls.name());
+    numbers.truncate(length);
+    numbers
+}
+
+/// W-205 of one plan, however it is drawn: these numbers, into as many places and into more; 9 into fewer, and then nothing is written.
+/// "If no entry is 65,535, the plan's k is the largest of the entries other than 65,534, or 0 if there is no such entry."
+fn needed(calls: &dyn Calls, plan: &Draft, expected: &[u16], name: &str) {
+    let length = plan.n * plan.m + 1;
+    assert_eq!(expected.len(), length, "{name}");
+    assert_eq!(numbers_of(calls, plan), expected, "{name} by {}", calls.name());
+    let drawn = if length < 100 { drawn_otherwise(plan) } else { vec![plan.laid_out(true, [1, 2, 3])] };
+    for bytes in drawn {
+        let mut numbers = vec![0; length];
+        assert_eq!(calls.needs(&bytes, &mut numbers), length as u32, "{name} by {}", calls.name());
+        assert_eq!(numbers, expected, "{name} by {}", calls.name());
+        for lent in [0, 1, length / 2, length - 1] {
+            let mut numbers: Vec<u16> = pattern(lent);
+            assert_eq!(calls.needs(&bytes, &mut numbers), REFUSED + 9, "{name} into {lent} by {}", calls.name());
+            assert_eq!(numbers, pattern::<u16>(lent), "{name} into {lent} by {}", calls.name());
+        }
+    }
+    let largest = expected.iter().filter(|&&number| number != OUT).max().map_or(0, |&k| k as u32);
+    counted(calls, plan, if expected.contains(&NONE) { Err(15) } else { Ok(largest) }, name);
+}
+
+/// W-205 on plans A to H: the starts, then stake by stake and code by code.
+#[test]
+fn needs_of_plans_a_to_h() {
+    let rows: [(&str, &[u16]); 8] = [
+        // {0}; from 0 {1}; from 1 {1,2}, of which 2 has no line; from 2 nothing
+        ("A", &[0, 0, 1, OUT]),
+        // {0}; from 0 {0,1}, and both go on with 0 for ever; from 1 {1}
+        ("B", &[0, NONE, 0]),
+        // {0,1} share 0 1; from 0 and from 1 by 0 {2}; from 2 by 1 {3}; there is no other line
+        ("C", &[3, 0, OUT, 0, OUT, OUT, 0, OUT, OUT]),
+        // {0}; from 0 {0}; no walk reaches 1 with its {1,2}, nor 2 with its {2}
+        ("D", &[0, 0, OUT, OUT]),
+        // no start, no line
+        ("E", &[OUT, OUT]),
+        // {0,1} share the empty word alone; no line
+        ("F", &[1, OUT, OUT]),
+        // {0,1} share 0 1, "the bound itself"; each line leads to one stake, and there is none from 0 by 1 or from 2 by 0
+        ("G", &[3, 0, OUT, 0, 0, OUT, 0]),
+        // {0,1} share 0 1 1 1 .. without end; the forks as C's, and from 3 by 1 {3}
+        ("H", &[NONE, 0, OUT, 0, OUT, OUT, 0, OUT, 0]),
+    ];
+    for calls in common::everyone() {
+        for ((name, numbers), (listed, plan, k)) in rows.iter().zip(listed()) {
+            assert_eq!(*name, listed);
+            needed(calls, &plan, numbers, name);
+            // what document 01 has for the plan as a whole
+            let largest = numbers.iter().filter(|&&number| number < OUT).max().map_or(0, |&k| k as u32);
+            assert_eq!(if numbers.contains(&NONE) { Err(15) } else { Ok(largest) }, k, "{name}");
+        }
+    }
+}
+
+/// W-205: "One bad fork now sinks a whole plan, and hides the others." Two bad forks, {1,2} from 0 by 0 and from 4 by 2, with others beside
+/// them, and two forks of 6, of which one would be bad. By the starts other stakes are reached; the others' forks have 65,534.
+#[test]
+fn bad_forks_among_others() {
+    let lines: Vec<Line> = [
+        [(0, 0, 1), (0, 0, 2)],
+        [(0, 1, 3), (0, 1, 4)],
+        [(0, 2, 1), (0, 2, 3)],
+        [(1, 0, 1), (2, 0, 2)],
+        [(3, 1, 5), (4, 1, 5)],
+        [(4, 2, 1), (4, 2, 2)],
+        [(6, 0, 1), (6, 0, 2)],
+        [(6, 1, 3), (6, 1, 4)],
+    ]
+    .concat();
+    let forks = [
+        // {1,2} go on with 0 for ever; {3,4} meet at 5 by 1, and 5 has no line; {1,3} go on with 0 and with 1 alone
+        [NONE, 2, 1],
+        // {1}
+        [0, OUT, OUT],
+        // {2}
+        [0, OUT, OUT],
+        // {5}
+        [OUT, 0, OUT],
+        // {5}; {1,2}
+        [OUT, 0, NONE],
+        // no line
+        [OUT, OUT, OUT],
+        // {1,2}; {3,4}
+        [NONE, 2, OUT],
+    ];
+    // the starts, their own number, and the stakes that are reached
+    let rows: [(&[u8], u16, &[usize]); 11] = [
+        (&[0], 0, &[0, 1, 2, 3, 4, 5]),
+        (&[6], 0, &[1, 2, 3, 4, 5, 6]),
+        // both go on with 0 to 1 or 2
+        (&[0, 6], NONE, &[0, 1, 2, 3, 4, 5, 6]),
+        (&[1, 2], NONE, &[1, 2]),
+        // 4 goes on to 1 and 2, too
+        (&[3, 4], 2, &[1, 2, 3, 4, 5]),
+        // 5 shares the empty word alone with each of the others
+        (&[3, 4, 5], 2, &[1, 2, 3, 4, 5]),
+        // 2 goes on with 0 alone, and 4 with 1 and 2
+        (&[2, 4], 1, &[1, 2, 4, 5]),
+        (&[1, 3], 1, &[1, 3, 5]),
+        (&[3], 0, &[3, 5]),
+        (&[5], 0, &[5]),
+        (&[], OUT, &[]),
+    ];
+    for calls in common::everyone() {
+        for (starts, number, reached) in rows {
+            let mut expected = vec![number];
+            for (stake, numbers) in forks.iter().enumerate() {
+                expected.extend(if reached.contains(&stake) { numbers } else { &[OUT; 3] });
+            }
+            needed(calls, &draft(7, 3, starts, &lines), &expected, &format!("from {starts:?}"));
+        }
+    }
+}
+
+/// W-205 at the greatest sizes: 2,049 numbers.
+#[test]
+fn needs_of_64_stakes_and_32_codes() {
+    let place = |stake: usize, code: usize| 1 + stake * 32 + code;
+    // the first fork, {63}, and the last, {0,1}, of which 1 has no line
+    let mut ends = vec![OUT; 2049];
+    (ends[0], ends[place(0, 0)], ends[place(63, 31)]) = (0, 0, 1);
+    assert_eq!((place(0, 0), place(63, 31)), (1, 2048));
+    // a line from each stake by each code, but for stake 40, which has none; beside three of these lines another
+    let lines = (0..64u8).filter(|&from| from != 40).flat_map(|from| (0..32).map(move |code| (from, code, (from + code + 1) % 64)));
+    let mut every: Vec<Line> = lines.collect();
+    let mut numbers = vec![0; 2049];
+    numbers[place(40, 0)..place(41, 0)].fill(OUT);
+    // {8,40}; {9,10} and {31,32}, which share words of any length, since by one code or another both get past 40
+    every.extend([(5, 2, 40), (5, 3, 10), (63, 31, 32)]);
+    (numbers[place(5, 2)], numbers[place(5, 3)], numbers[place(63, 31)]) = (1, NONE, NONE);
+    // from the lower half a line by each code into the lower half; the upper half, with two lines by each code, is abandoned
+    let low = (0..32u8).flat_map(|from| (0..32).map(move |code| (from, code, (from + code + 1) % 32)));
+    let high = (32..64u8).flat_map(|from| (0..32).flat_map(move |code| [(from, code, 0), (from, code, from)]));
+    let half: Vec<Line> = low.chain(high).collect();
+    let mut of_half = vec![0; 2049];
+    of_half[place(32, 0)..].fill(OUT);
+    for calls in common::everyone() {
+        needed(calls, &draft(64, 32, &[0], &[(0, 0, 63), (63, 31, 0), (63, 31, 1)]), &ends, "the first fork and the last");
+        needed(calls, &draft(64, 32, &[0], &every), &numbers, "a line from each stake but one by each code");
+        needed(calls, &draft(64, 32, &[0], &half), &of_half, "half of the stakes abandoned");
+        needed(calls, &draft(64, 32, &[], &half), &[OUT; 2049], "no starts");
+        needed(calls, &draft(64, 32, &[63], &[]), &[&[0], [OUT; 2048].as_slice()].concat(), "no lines");
+    }
+}
+
+/// Numbers that 003 proves or states: Theorem 5 with n(n-1)/2, Proposition 6 with n - 1 for one code, Remark 7 with n/2 × (n+1)/2. In each
+/// family the sets of several stakes are one and the same, {r, s}, and every other line leads to one stake.
+#[test]
+fn needs_as_large_as_they_can_be() {
+    // by a plan's lines: what a fork of several stakes has, 0 for one stake, 65,534 for none
+    let by_lines = |plan: &Draft, starts: u16, several: u16| {
+        let mut numbers = vec![starts];
+        for (stake, code) in (0..plan.n as u8).flat_map(|stake| (0..plan.m as u8).map(move |code| (stake, code))) {
+            let led_to = plan.lines.iter().filter(|line| (line.0, line.1) == (stake, code)).count();
+            numbers.push([OUT, 0, several][led_to]);
+        }
+        numbers
+    };
+    for calls in common::everyone() {
+        // n 3: 0 by 0 leads to {0,1}, which share 1 2; then by 1 0-1-0 and 1-1-2, by 2 0-2-1 and 2-2-2
+        let three = theorem_5(3, &all_pairs(3));
+        needed(calls, &three, &[0, 3, 0, 0, OUT, 0, OUT, OUT, OUT, 0], "Theorem 5 with three stakes");
+        for n in 1..=8u8 {
+            let plan = theorem_5(n as usize, &all_pairs(n));
+            needed(calls, &plan, &by_lines(&plan, 0, n as u16 * (n as u16 - 1) / 2), "Theorem 5");
+        }
+        for n in [2, 3, 9, 64] {
+            needed(calls, &unary_chain(n), &by_lines(&unary_chain(n), 0, n as u16 - 1), "Proposition 6");
+        }
+        for (i, j) in [(1, 1), (2, 3), (8, 9), (32, 32)] {
+            let (plan, number) = (odometer(i, j), (i * j) as u16);
+            needed(calls, &plan, &by_lines(&plan, number, number), "Remark 7's number");
+        }
+    }
+}
+
+/// W-205 where the text of 003, or a trap of document 01, says how long the words of a set are.
+#[test]
+fn needs_of_figure_7_and_of_the_traps() {
+    // Example 7: in {q1,q6} b is a maximal nonselector; in {q2,q3} ba and bb are minimal selectors; in {q4,q5,q6} a and b are.
+    // q1: {q2,q3}, {q1}; q2: {q4,q5,q6}, {q6}; q3: {q7} by b; q4: {q1} by a; q5: none; q6: {q5} by b; q7: {q1} by a; none by c
+    let by_stake = [[2, 0, OUT], [1, 0, OUT], [OUT, 0, OUT], [0, OUT, OUT], [OUT, OUT, OUT], [OUT, 0, OUT], [0, OUT, OUT]].concat();
+    // "A loop that exchanges the two stakes": the starts; each stake leads to one
+    let exchange = draft(2, 1, &[0, 1], &[(0, 0, 1), (1, 0, 0)]);
+    // "Three stakes that share no word of some length may still share one of that length two by two": 0 and 1 share 0, 1 and 2 share 1,
+    // 0 and 2 share 2
+    let by_twos = draft(4, 3, &[0, 1, 2], &[(0, 0, 3), (1, 0, 3), (1, 1, 3), (2, 1, 3), (0, 2, 3), (2, 2, 3)]);
+    for calls in common::everyone() {
+        needed(calls, &figure_7(&[0, 5]), &[&[2], by_stake.as_slice()].concat(), "Fig. 7");
+        // from q6 there remains q6 b q5
+        let mut from_q6 = [OUT; 22];
+        (from_q6[0], from_q6[1 + 5 * 3 + 1]) = (0, 0);
+        needed(calls, &figure_7(&[5]), &from_q6, "Fig. 7 from q6");
+        needed(calls, &exchange, &[NONE, 0, 0], "exchange");
+        needed(calls, &by_twos, &[2, 0, OUT, 0, 0, 0, OUT, OUT, 0, 0, OUT, OUT, OUT], "two by two");
+    }
+}
+
+/// W-205: "From plan bytes that pass refusals 1 to 7"; the lowest of them that applies comes before 9.
+#[test]
+fn plans_that_have_no_numbers() {
+    let refused = refused_plans();
+    for calls in common::everyone() {
+        for (number, plan) in &refused {
+            for lent in [0, 1, 3, 4, 100] {
+                let mut numbers: Vec<u16> = pattern(lent);
+                assert_eq!(calls.needs(plan, &mut numbers), REFUSED + number, "{plan:?} into {lent} by {}", calls.name());
+                assert_eq!(numbers, pattern::<u16>(lent), "{plan:?} by {}", calls.name());
+            }
+        }
     }
 }
 

@@ -2,7 +2,7 @@
 
 use conformance::calls::Calls;
 use conformance::families::{draft, ladder, odometer, Draft, Line};
-use conformance::forms::{evidence, letters, plan, record, table};
+use conformance::forms::{evidence, letters, needs, plan, record, table};
 use conformance::forms::{COUNTS, LENGTH, MAX_CODES, MAX_LINES, MAX_STAKES, NEXT, POSITION, REFUSED};
 use conformance::library::Library;
 use conformance::plain::Plain;
@@ -100,6 +100,14 @@ fn says(reply: u32) -> String {
     format!("k {reply}")
 }
 
+/// The numbers of a plan's sets: how many count, how many of these are without a k, and the greatest k of the others.
+fn says_needs(numbers: &[u16]) -> String {
+    let endless = numbers.iter().filter(|&&number| number == needs::ENDLESS).count();
+    let counted = numbers.iter().filter(|&&number| number != needs::UNMEASURED).count();
+    let most = numbers.iter().filter(|&&number| number < needs::UNMEASURED).max().map_or(0, |&k| k);
+    format!("{counted} sets, {endless} without k, the others up to k {most}")
+}
+
 /// `e` different lines of those that are drawn.
 fn drawn(r: &mut Random, m: usize, e: usize, draw: impl Fn(&mut Random) -> Option<Line>) -> Draft {
     let (mut lines, mut seen) = (Vec::new(), std::collections::HashSet::new());
@@ -169,9 +177,9 @@ fn main() {
     let mut r = Random::new(2007, 3);
     println!("Processor time for one operation: the median of {SAMPLES} samples of some 20 ms ({FEW_SAMPLES} where one operation takes");
     println!("longer), taken of both sides in turn, with the quartiles. The timed part is the calls alone, each with all its checks:");
-    println!("from plan bytes for read, write, count (gawherino_look_ahead) and prepare; from a table for a leg (8 on the whole table");
-    println!("each time), a whole walk and a step (8 on the whole table too). A leg's time is that of opening and all legs (20,000 to");
-    println!("1,000,000), divided by their number; a step's that of one by each code, divided by theirs.");
+    println!("from plan bytes for read, write, count (gawherino_look_ahead), prepare and needs; from a table for a leg (8 on the whole");
+    println!("table each time), a whole walk and a step (8 on the whole table too). A leg's time is that of opening and all legs (20,000");
+    println!("to 1,000,000), divided by their number; a step's that of one by each code, divided by theirs.");
     println!();
     println!("| what | library | plain Rust | plain / library |");
     println!("|---|---|---|---|");
@@ -245,6 +253,22 @@ fn main() {
         let table = std::cell::RefCell::new(&mut table);
         row(&format!("prepare, {name}: {}", says(reply)), 1, &|calls| {
             black_box(calls.prepare(black_box(plan), &mut table.borrow_mut(), &mut [0; LETTERS], &mut [0; EVIDENCE]));
+        });
+    }
+
+    // of the plans of the count, and of plan A
+    let smallest = [("plan A", small.clone())];
+    for (name, plan) in smallest.iter().chain([0, 3, 4, 6, 8, 10, 11, 12, 13, 14].map(|row| &plans[row])) {
+        let room = std::cell::RefCell::new([0; needs::length(MAX_STAKES, MAX_CODES)]);
+        let numbers = |calls: &dyn Calls| {
+            let mut numbers = room.borrow_mut();
+            let length = calls.needs(plan, numbers.as_mut_slice()) as usize;
+            numbers[..length].to_vec()
+        };
+        let told = numbers(&Library { null_if_empty: false });
+        assert_eq!(told, numbers(&Plain), "the library and plain.rs disagree");
+        row(&format!("needs, {name}: {}", says_needs(&told)), 1, &|calls| {
+            black_box(calls.needs(black_box(plan), room.borrow_mut().as_mut_slice()));
         });
     }
 

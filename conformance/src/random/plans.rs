@@ -189,6 +189,20 @@ pub fn full(r: &mut Random) -> Draft {
     Draft { n: MAX_STAKES, m, starts: some_starts(r, MAX_STAKES, MAX_STAKES), lines }
 }
 
+/// The plan among 64 stakes and 32 codes, with the last fork, if there is room, behind one of its starts.
+pub fn widened(r: &mut Random, plan: &Draft) -> Draft {
+    let mut plan = Draft { n: MAX_STAKES, m: MAX_CODES, ..plan.clone() };
+    let (last, code) = (MAX_STAKES as u8 - 1, MAX_CODES as u8 - 1);
+    if !plan.starts.is_empty() {
+        let start = r.pick(&plan.starts);
+        add(&mut plan, (start, r.below(MAX_CODES) as u8, last));
+    }
+    for _ in 0..r.among(1, 3) {
+        add(&mut plan, (last, code, r.below(MAX_STAKES) as u8));
+    }
+    plan
+}
+
 /// Adds a line if it is a new one and there is room.
 fn add(plan: &mut Draft, line: Line) {
     if plan.lines.len() < MAX_LINES && !plan.lines.contains(&line) {

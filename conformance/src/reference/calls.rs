@@ -94,6 +94,13 @@ fn write(plan: &[u8], out: &mut [u8]) -> Result<u32, Refusal> {
     Ok(form.len() as u32)
 }
 
+fn needs(plan: &[u8], needs: &mut [u16]) -> Result<u32, Refusal> {
+    let numbers = lookahead::needs(&plan::read(plan)?.plan);
+    lent(needs, numbers.len(), "needs")?;
+    put(needs, &numbers);
+    Ok(numbers.len() as u32)
+}
+
 fn step(table: &[u64], set: u64, letter: u32, next: &mut [u64]) -> Result<u32, Refusal> {
     let (plan, _) = plan_of(table)?;
     lent(next, 1, "next")?;

@@ -36,6 +36,10 @@ pub const COUNTS: usize = 3;
 /// A verdict's two sets.
 pub const VERDICT: usize = 2;
 
+/// W-205: "65,535 means that this set has none, 65,534 that it is empty or doesn't count by W-202."
+pub const HAS_NONE: u16 = 65_535;
+pub const NOT_COUNTED: u16 = 65_534;
+
 /// "4 + n × m numbers for preparing"
 pub fn table_length(n: usize, m: usize) -> usize {
     SETS + n * m

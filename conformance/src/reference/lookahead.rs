@@ -1,7 +1,9 @@
-//! The count: the longest word that two stakes share is a longest path over the graph of pairs, and endless if a loop can be reached.
+//! The count, of a plan and of each critical set by itself: the longest word that two stakes share is a longest path over the graph of
+//! pairs, and endless if a loop can be reached.
 
+use super::forms::{HAS_NONE, NOT_COUNTED, STARTS};
 use super::plan::{Name, Plan};
-use super::{members, Stakes};
+use super::{members, size, Stakes};
 
 /// How long the longest word is that two stakes share.
 #[derive(Clone, Copy, Debug, PartialEq, Eq)]
@@ -97,18 +99,68 @@ pub fn least(plan: &Plan, sets: &[(Name, Stakes)]) -> Option<usize> {
     let mut pairs = Pairs::new(plan);
     let mut k = 0;
     for (_, set) in sets {
-        let stakes = members(set);
-        for &s in &stakes {
-            for &t in &stakes {
-                if s < t {
-                    match pairs.longest(s, t) {
-                        Shared::Endless => return None,
-                        // the longest shared word has k-1 codes
-                        Shared::Codes(longest) => k = k.max(longest + 1),
-                    }
+        k = k.max(need(&mut pairs, set)?);
+    }
+    Some(k)
+}
+
+/// W-205: "A set's number is the least k for which no two of its different stakes share a word of k codes"; none if there is no such k.
+fn need(pairs: &mut Pairs, set: &[bool]) -> Option<usize> {
+    let stakes = members(set);
+    let mut k = 0;
+    for &s in &stakes {
+        for &t in &stakes {
+            if s < t {
+                match pairs.longest(s, t) {
+                    Shared::Endless => return None,
+                    // the longest shared word has k-1 codes
+                    Shared::Codes(longest) => k = k.max(longest + 1),
                 }
             }
         }
     }
     Some(k)
+}
+
+/// W-205: "the look-ahead of each critical set by itself: first the starts, then stake by stake and code by code, n × m + 1 numbers".
+pub fn needs(plan: &Plan) -> Vec<u16> {
+    let reached = plan.reached();
+    // each set, and whether it counts by W-202
+    let mut sets = vec![(plan.starts.clone(), true)];
+    for stake in 0..plan.n {
+        for code in 0..plan.m {
+            sets.push((plan.fork(stake, code), reached[stake]));
+        }
+    }
+    let mut pairs = Pairs::new(plan);
+    let mut numbers = Vec::new();
+    for (set, counts) in sets {
+        // "65,535 means that this set has none, 65,534 that it is empty or doesn't count by W-202"
+        if size(&set) == 0 || !counts {
+            numbers.push(NOT_COUNTED);
+            continue;
+        }
+        numbers.push(match need(&mut pairs, &set) {
+            Some(k) => k as u16,
+            None => HAS_NONE,
+        });
+    }
+    numbers
+}
+
+/// Where the number of the set of this name stands, if the plan has m codes: first the starts', then stake by stake and code by code.
+pub fn entry((stake, code): Name, m: usize) -> usize {
+    if (stake, code) == STARTS {
+        return 0;
+    }
+    1 + stake as usize * m + code as usize
+}
+
+/// W-205: "If no entry is 65,535, the plan's k is the largest of the entries other than 65,534, or 0 if there is no such entry"; else none.
+pub fn largest(numbers: &[u16]) -> Option<usize> {
+    if numbers.contains(&HAS_NONE) {
+        return None;
+    }
+    let others = numbers.iter().filter(|&&number| number != NOT_COUNTED);
+    Some(others.max().map_or(0, |&k| k as usize))
 }
