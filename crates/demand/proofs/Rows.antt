@@ -40,8 +40,8 @@ use Rattle.slices.specs.Copying.{atFront}
 use Rattle.plan.proofs.Asked.{refused-passing}
 use Rattle.needs.specs.declared.Needs.{Needs}
 use Rattle.needs.specs.declared.Needs.the-variants as needing
-use Rattle.needs.specs.Needs.{entries, Tells as TellsNeeds, outcomeOfNeeds, NeedsOf}
-use Rattle.needs.proofs.Theorems.{tells-unique}
+use Rattle.needs.specs.Needs.{entries, TellsNeeds, outcomeOfNeeds, NeedsOf}
+use Rattle.needs.proofs.Theorems.{met as needs-met}
 use Rattle.needs.proofs.Computed.{tells as tells-needs, tells-so}
 use Rattle.lookahead.specs.declared.Evidence.{Evidence}
 use Rattle.lookahead.specs.Answers.{TrueOf}
@@ -160,17 +160,14 @@ module _ (plan : List ℕ) (w : WellFormed plan) where
 
 -- THE NEEDS, of which there is one list
 
-module _ (plan : List ℕ) (w : WellFormed plan) (numbers : List ℕ) (t : TellsNeeds (meaning plan) numbers) (old needs : List ℕ)
-    (room : length numbers ≤ length old) where
-  needed-so : (a : Needs) → NeedsOf (asked plan) a old needs
-      → (outcomeOfNeeds a ≡ answered (length numbers)) × (needs ≡ atFront numbers old)
-  needed-so (needing.Entries count) (_, (e, f)) = (
-    ap answered (e ∙ sym (t .long)),
-    f .is ∙ ap (λ (numbers : List ℕ). atFront numbers old) (tells-unique (f .numbers) numbers (f .tells) t),
-  )
-  needed-so (needing.Refused r) (e, n, _) =
-      let enough : ltb (length old) (entries (meaning plan)) ≡ false = le-ltb (length old) (entries (meaning plan)) (rw (← t .long) room) in
-      absurd (n (e ∙ refused-passing (asked plan) (asked-proper plan) w _ ∙ rw enough))
+needed-so : (plan : List ℕ) → WellFormed plan → (numbers : List ℕ) → TellsNeeds (meaning plan) numbers → (old needs : List ℕ)
+    → length numbers ≤ length old → (a : Needs) → NeedsOf (asked plan) a old needs
+    → (outcomeOfNeeds a ≡ answered (length numbers)) × (needs ≡ atFront numbers old)
+needed-so plan w numbers t old needs room a d =
+    needs-met (asked plan) (asked-proper plan) .same a (needing.Entries (length numbers)) old needs (atFront numbers old) d (
+      refused-passing (asked plan) (asked-proper plan) w _ ∙ rw (le-ltb (length old) (entries (meaning plan)) (rw (← t .long) room)),
+      (t .long, record { numbers = numbers; tells = t; is = refl }),
+    )
 
 not-false : (b : Bool) → not b ≡ false → b ≡ true
 not-false true e = refl

@@ -7,6 +7,7 @@ use mathlib.Core.Option.{Option, some, none}
 use mathlib.Core.Path.{_≡_}
 use mathlib.Core.List.{List, [], _∷_}
 use lib.ListN.{length, getD}
+use Rattle.semiautomata.specs.Sizes.{endless, unmeasured}
 use Rattle.streaming.specs.Calls as reply
 use Rattle.refusals.specs.Outcomes.{refused, answered}
 use Rattle.plan.specs.Bytes.{headerOf, asked}
@@ -62,7 +63,7 @@ abbrev pub drawn : Option ℕ → ℕ
 drawn (some k) = k
 drawn none = 65551
 
--- What is said beside is so of the calls, lent a table that preparing made from the plan.
+-- What is said beside is so of the calls, those on a table being lent one that preparing made from the plan.
 abbrev pub IsSo : List ℕ → Saying → Type 0
 IsSo plan (walked word sets) =
     (k : ℕ) (table old out : List ℕ) (a : Walked) → Made (asked plan) k table → length word < length old → Walks table word a old out
@@ -110,13 +111,6 @@ abbrev pub evidence : ℕ → ℕ → ℕ → ℕ → ℕ → ℕ → Evidence
 evidence state letter low high stem cycle =
     record { state = state; letter = letter; low = low; high = high; stem = stem; cycle = cycle }
 
--- The marks of needs: a set that is empty or doesn't count, and one that has none.
-abbrev pub idle : ℕ
-idle = 65534
-
-abbrev pub never : ℕ
-never = 65535
-
 -- Of each sample whose look-ahead is 1 or more a walk is shown with two or more states at a position that exactly k - 1 letters follow
 -- (W-203): of A at position 3, of the others at 0.
 abbrev pub rows : List Row
@@ -125,36 +119,36 @@ rows =
     judged 1 0 [] (verdict 6 false 4)
     ∷ judged 1 0 (0 ∷ []) (verdict 2 true 0)
     ∷ walked (0 ∷ 0 ∷ 0 ∷ []) (1 ∷ 2 ∷ 2 ∷ 6 ∷ [])
-    ∷ needed (0 ∷ 0 ∷ 1 ∷ idle ∷ [])
+    ∷ needed (0 ∷ 0 ∷ 1 ∷ unmeasured ∷ [])
     ∷ []
     )
-    ∷ row B (needed (0 ∷ never ∷ 0 ∷ []) ∷ [])
+    ∷ row B (needed (0 ∷ endless ∷ 0 ∷ []) ∷ [])
     ∷ row C (
     walked (0 ∷ 1 ∷ []) (3 ∷ 4 ∷ 8 ∷ [])
-    ∷ needed (3 ∷ 0 ∷ idle ∷ 0 ∷ idle ∷ idle ∷ 0 ∷ idle ∷ idle ∷ [])
+    ∷ needed (3 ∷ 0 ∷ unmeasured ∷ 0 ∷ unmeasured ∷ unmeasured ∷ 0 ∷ unmeasured ∷ unmeasured ∷ [])
     ∷ []
     )
-    ∷ row D (uncounted 1 0 ∷ judged 1 0 [] (verdict 6 false 0) ∷ needed (0 ∷ 0 ∷ idle ∷ idle ∷ []) ∷ [])
-    ∷ row E (unopened ∷ needed (idle ∷ idle ∷ []) ∷ [])
-    ∷ row F (walked [] (3 ∷ []) ∷ needed (1 ∷ idle ∷ idle ∷ []) ∷ [])
-    ∷ row G (at-bound ∷ walked (0 ∷ 1 ∷ []) (3 ∷ 6 ∷ 5 ∷ []) ∷ needed (3 ∷ 0 ∷ idle ∷ 0 ∷ 0 ∷ idle ∷ 0 ∷ []) ∷ [])
-    ∷ row H (needed (never ∷ 0 ∷ idle ∷ 0 ∷ idle ∷ idle ∷ 0 ∷ idle ∷ 0 ∷ []) ∷ [])
+    ∷ row D (uncounted 1 0 ∷ judged 1 0 [] (verdict 6 false 0) ∷ needed (0 ∷ 0 ∷ unmeasured ∷ unmeasured ∷ []) ∷ [])
+    ∷ row E (unopened ∷ needed (unmeasured ∷ unmeasured ∷ []) ∷ [])
+    ∷ row F (walked [] (3 ∷ []) ∷ needed (1 ∷ unmeasured ∷ unmeasured ∷ []) ∷ [])
+    ∷ row G (at-bound ∷ walked (0 ∷ 1 ∷ []) (3 ∷ 6 ∷ 5 ∷ []) ∷ needed (3 ∷ 0 ∷ unmeasured ∷ 0 ∷ 0 ∷ unmeasured ∷ 0 ∷ []) ∷ [])
+    ∷ row H (needed (endless ∷ 0 ∷ unmeasured ∷ 0 ∷ unmeasured ∷ unmeasured ∷ 0 ∷ unmeasured ∷ 0 ∷ []) ∷ [])
     ∷ row C′ (
     walked (0 ∷ 1 ∷ []) (12 ∷ 2 ∷ 1 ∷ [])
-    ∷ needed (3 ∷ idle ∷ idle ∷ idle ∷ 0 ∷ 0 ∷ idle ∷ 0 ∷ idle ∷ [])
+    ∷ needed (3 ∷ unmeasured ∷ unmeasured ∷ unmeasured ∷ 0 ∷ 0 ∷ unmeasured ∷ 0 ∷ unmeasured ∷ [])
     ∷ []
     )
     ∷ row B′ (
     claimed (evidence 0 0 0 1 0 1) (0 ∷ [])
     ∷ uncounted 2 0
-    ∷ needed (0 ∷ never ∷ 0 ∷ idle ∷ [])
+    ∷ needed (0 ∷ endless ∷ 0 ∷ unmeasured ∷ [])
     ∷ []
     )
-    ∷ row B″ (unopened ∷ uncounted 0 0 ∷ needed (idle ∷ idle ∷ idle ∷ []) ∷ [])
+    ∷ row B″ (unopened ∷ uncounted 0 0 ∷ needed (unmeasured ∷ unmeasured ∷ unmeasured ∷ []) ∷ [])
     ∷ row D′ (
     forged (5 ∷ 0 ∷ 0 ∷ 0 ∷ 0 ∷ 0 ∷ 0 ∷ 0 ∷ []) 0
     ∷ uncounted 0 0
-    ∷ needed (0 ∷ idle ∷ idle ∷ idle ∷ idle ∷ [])
+    ∷ needed (0 ∷ unmeasured ∷ unmeasured ∷ unmeasured ∷ unmeasured ∷ [])
     ∷ []
     )
     ∷ []

@@ -9,8 +9,7 @@ use borrow.Author.Tests.{lt-ltb, le-ltb}
 use Rattle.semiautomata.specs.Successors.{successors}
 use Rattle.plan.specs.Asked.{Asked, refusalOf, Passes, Proper}
 use Rattle.plan.specs.Loading.{Holds}
-use Rattle.plan.proofs.Asked.{refused-passing}
-use Rattle.prepare.proofs.Promises.{unread}
+use Rattle.plan.proofs.Asked.{refused-passing, unread}
 use Rattle.needs.specs.declared.Needs.the-variants.{Entries, Refused}
 use Rattle.needs.specs.Needs.{entries, Filled, NeedsOf}
 

@@ -1,8 +1,8 @@
 -- Whether numbers tell the needs of a semiautomaton, as tests that compute.
 -- Assumes nothing.
-use Prim.Native.Nat.{ℕ, zero, suc, _*_, _≤_, _<_}
+use Prim.Native.Nat.{ℕ, zero, suc, _*_, _≤_}
 use mathlib.Core.Bool.{Bool, true, false, cond, not, _&&_, true≢false}
-use mathlib.Core.Path.{_≡_, refl, sym, _∙_}
+use mathlib.Core.Path.{_≡_, sym, _∙_}
 use mathlib.Core.Logic.{inl, inr}
 use mathlib.Core.List.{List}
 use native.Mathlib.Omega.{arith}
@@ -16,10 +16,9 @@ use Rattle.semiautomata.specs.Semiautomaton.{Semiautomaton, Within}
 use Rattle.semiautomata.specs.Predictability.{Critical, initial, fork, member, Need}
 use Rattle.semiautomata.specs.Levels.{counts, clashIn}
 use Rattle.semiautomata.proofs.Shares.{member-lt, clash-shorter}
-use Rattle.semiautomata.proofs.Lassos.{share-ever}
-use Rattle.semiautomata.proofs.Decide.{counts-in, counts-out, clashIn-in, clashIn-out, need-first}
-use Rattle.pairs.specs.Lifetimes.{endless}
-use Rattle.needs.specs.Needs.{unmeasured, Measured, Endless, Says, Of, entry, entries, Tells}
+use Rattle.semiautomata.proofs.Decide.{counts-in, counts-out, clashIn-in, clashIn-out, clash-endless, need-first}
+use Rattle.semiautomata.specs.Sizes.{endless, unmeasured}
+use Rattle.needs.specs.Needs.{Measured, Says, Of, placeOf, entries, TellsNeeds}
 use Rattle.needs.proofs.Saying.{says-idle, says-endless, says-need}
 
 -- the set counts and is not empty; it has this need
@@ -39,7 +38,7 @@ says S T v = cond (eqb v unmeasured) (not (measured S T))
 abbrev pub tells : Semiautomaton → List ℕ → Bool
 tells S numbers =
     eqb (length numbers) (entries S) && (says S initial (getD numbers 0 0)
-    && not (any (S .n) λ q. any (S .m) λ a. not (says S (fork q a) (getD numbers (entry S (fork q a)) 0))))
+    && not (any (S .n) λ q. any (S .m) λ a. not (says S (fork q a) (getD numbers (placeOf S (fork q a)) 0))))
 
 module _ (S : Semiautomaton) (W : Within S) (few : S .n ≤ 64) where
   measured-out : (T : Critical) → measured S T ≡ true → Measured S T
@@ -58,17 +57,6 @@ module _ (S : Semiautomaton) (W : Within S) (few : S .n ≤ 64) where
       need-first S W _ (member-lt W T) (suc k)
       (λ j h. clashIn-in S W _ (member-lt W T) j (clash-shorter (omega arith) (clashIn-out S _ k a))) (not-true _ b)
 
-  endless-out : (T : Critical) → clashIn S (member S T) (S .n * S .n) ≡ true → Endless S T
-  endless-out T e k p =
-      let c = clashIn-out S (member S T) (S .n * S .n) e in
-      let r = c .rivals in
-      p (record {
-        s = c .s;
-        t = c .t;
-        rivals = r;
-        shared = share-ever S W (c .s) (c .t) (member-lt W T (c .s) (r .left)) (member-lt W T (c .t) (r .right)) (c .shared) k;
-      })
-
   says-so : (T : Critical) (v : ℕ) → says S T v ≡ true → Says S T v
   says-so T v e = elim (decided (eqb v unmeasured)) [
     | inl z ↦
@@ -77,19 +65,19 @@ module _ (S : Semiautomaton) (W : Within S) (few : S .n ≤ 64) where
     | inr z ↦
         let (m, f) = and-out (measured S T) _ (rw z at e) in
         elim (decided (eqb v endless)) [
-          | inl y ↦ rw (eqb-true v endless y) (says-endless (measured-out T m) (endless-out T (rw y at f)))
+          | inl y ↦ rw (eqb-true v endless y) (says-endless (measured-out T m) (clash-endless S W (member S T) (member-lt W T) (rw y at f)))
           | inr y ↦ says-need W few T v (measured-out T m) (needs-out T v (rw y at f))
         ]
   ]
 
-  pub tells-so : (numbers : List ℕ) → tells S numbers ≡ true → Tells S numbers
+  pub tells-so : (numbers : List ℕ) → tells S numbers ≡ true → TellsNeeds S numbers
   tells-so numbers e =
       let (a, f) = and-out (eqb (length numbers) (entries S)) _ e in
       let (b, g) = and-out (says S initial (getD numbers 0 0)) _ f in
       record { long = eqb-true (length numbers) (entries S) a; says = each b (not-true _ g) }
     where
       each : says S initial (getD numbers 0 0) ≡ true
-          → any (S .n) (λ q. any (S .m) λ a. not (says S (fork q a) (getD numbers (entry S (fork q a)) 0))) ≡ false
-          → (T : Critical) → Of S T → Says S T (getD numbers (entry S T) 0)
+          → any (S .n) (λ q. any (S .m) λ a. not (says S (fork q a) (getD numbers (placeOf S (fork q a)) 0))) ≡ false
+          → (T : Critical) → Of S T → Says S T (getD numbers (placeOf S T) 0)
       each b g initial _ = says-so initial _ b
       each b g (fork q a) (h, l) = says-so (fork q a) _ (not-false _ (any-not (S .m) _ (any-not (S .n) _ g q h) a l))

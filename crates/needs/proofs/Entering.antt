@@ -18,8 +18,8 @@ use Rattle.semiautomata.specs.Successors.{place, successors, setAt, Fit}
 use Rattle.semiautomata.proofs.Places.{place-same}
 use Rattle.semiautomata.proofs.Successors.{place-lt}
 use Rattle.pairs.specs.Lifetimes.{Lifetimes}
-use Rattle.needs.specs.Needs.{Says, Of, entry, Filled}
-use Rattle.needs.specs.inner.Longest.{Entered, ForksEntered}
+use Rattle.needs.specs.Needs.{Says, Of, placeOf, Filled}
+use Rattle.needs.specs.inner.Entering.{Entered, ForksEntered}
 use Rattle.needs.proofs.Saying.{says-initial, says-fork}
 
 module _ {numbers : List ℕ} {m : ℕ} {sets : List ℕ} {reached : ℕ} where
@@ -92,7 +92,7 @@ module _ (n m starts : ℕ) (sets : List ℕ) (F : Fit n m sets) (H : starts < 2
           rw (getD-drop, getD-drop) (k .kept (n * m + 1 + i) (inr (omega arith)))
 
       says : (T : Critical) → Of (successors n m starts sets) T
-          → Says (successors n m starts sets) T (getD (take (n * m + 1) needs) (entry (successors n m starts sets) T) 0)
+          → Says (successors n m starts sets) T (getD (take (n * m + 1) needs) (placeOf (successors n m starts sets) T) 0)
       says initial _ =
           let z : getD (take (n * m + 1) needs) 0 0 ≡ v =
           getD-take (n * m + 1) needs 0 0 (omega arith) ∙ k .kept 0 (inl (omega arith)) ∙ getD-set-same old 0 v 0 (omega (arith, room)) in

@@ -1,13 +1,13 @@
 -- The largest of the entries, and the look-ahead by needs.
 -- Assumes nothing.
-use Prim.Native.Nat.{ℕ, zero, suc, _+_, _*_, _/_, _%_, _≤_, _<_}
-use mathlib.Core.Bool.{Bool, true, false, cond}
+use Prim.Native.Nat.{ℕ, zero, suc, _*_, _/_, _%_, _≤_, _<_}
+use mathlib.Core.Bool.{true, false}
 use mathlib.Core.Path.{_≡_, refl, sym, _∙_}
 use mathlib.Core.Logic.{_⊎_, inl, inr}
 use mathlib.Core.List.{List, [], _∷_}
 use native.Mathlib.Decide.{decLt}
 use native.Mathlib.Omega.{arith}
-use lib.Dec.{eqb, ltb}
+use lib.Dec.{eqb}
 use lib.ListN.{length, getD}
 use borrow.Author.Tests.{eqb-false, ne-eqb, lt-ltb, le-ltb}
 use Rattle.bitset.proofs.Tests.{decided}
@@ -16,8 +16,8 @@ use Rattle.semiautomata.specs.Predictability.{Critical, initial, fork, member, 
 use Rattle.semiautomata.proofs.Shares.{set-more}
 use Rattle.semiautomata.proofs.Decide.{unpredictable-witness, witness-endless}
 use Rattle.semiautomata.proofs.Successors.{state-lt, letter-lt, place-of, place-lt}
-use Rattle.pairs.specs.Lifetimes.{endless}
-use Rattle.needs.specs.Needs.{unmeasured, Measured, Endless, Says, Of, entry, entries, Tells, larger, largest}
+use Rattle.semiautomata.specs.Sizes.{endless, unmeasured}
+use Rattle.needs.specs.Needs.{Measured, NoNeed, Says, Of, placeOf, entries, TellsNeeds, larger, largest}
 use Rattle.needs.specs.Theorems.{SomeEndless}
 
 -- THE LARGEST
@@ -74,18 +74,18 @@ largest-some (v ∷ vs) = elim (decided (eqb v unmeasured)) [
 -- THE ORDER
 
 module _ (S : Semiautomaton) where
-  pub each-entry : (i : ℕ) → i < entries S → (T : Critical) × Of S T × (entry S T ≡ i)
-  each-entry zero h = (initial, tt, refl)
-  each-entry (suc j) h =
+  pub each-place : (i : ℕ) → i < entries S → (T : Critical) × Of S T × (placeOf S T ≡ i)
+  each-place zero h = (initial, tt, refl)
+  each-place (suc j) h =
       let g : j < S .n * S .m = omega arith in (
         fork (j / S .m) (j % S .m),
         (state-lt (S .n) (S .m) j g, letter-lt (S .n) (S .m) j g),
         let e = place-of (S .n) (S .m) j g in omega (arith, e),
       )
 
-  pub entry-lt : (T : Critical) → Of S T → entry S T < entries S
-  entry-lt initial _ = omega arith
-  entry-lt (fork q a) (h, g) = omega (arith, place-lt (S .n) (S .m) q a h g)
+  pub place-of-lt : (T : Critical) → Of S T → placeOf S T < entries S
+  place-of-lt initial _ = omega arith
+  place-of-lt (fork q a) (h, g) = omega (arith, place-lt (S .n) (S .m) q a h g)
 
 -- a critical set with a state is one of S
 pub member-of : {S : Semiautomaton} → Within S → (T : Critical) (s : ℕ) → member S T s ≡ true → Of S T
@@ -94,16 +94,16 @@ member-of W (fork q a) s e = (W .from-lt q a s e, W .letter-lt q a s e)
 
 -- THE LOOK-AHEAD
 
-module _ {S : Semiautomaton} (W : Within S) {numbers : List ℕ} (t : Tells S numbers) where
+module _ {S : Semiautomaton} (W : Within S) {numbers : List ℕ} (t : TellsNeeds S numbers) where
   -- what the number of a set with a state says
-  pub says-of : (T : Critical) (s : ℕ) → member S T s ≡ true → Says S T (getD numbers (entry S T) 0)
+  pub says-of : (T : Critical) (s : ℕ) → member S T s ≡ true → Says S T (getD numbers (placeOf S T) 0)
   says-of T s e = t .says T (member-of W T s e)
 
-  pub in-numbers : (T : Critical) → Of S T → entry S T < length numbers
-  in-numbers T o = rw (t .long) (entry-lt S T o)
+  pub in-numbers : (T : Critical) → Of S T → placeOf S T < length numbers
+  in-numbers T o = rw (t .long) (place-of-lt S T o)
 
-  pub endless-entry : (T : Critical) → Measured S T → Endless S T → getD numbers (entry S T) 0 ≡ endless
-  endless-entry T M never = let (_, (s, e)) = M in says-of T s e .endless-is .1 (M, never)
+  pub endless-at : (T : Critical) → Measured S T → NoNeed S T → getD numbers (placeOf S T) 0 ≡ endless
+  endless-at T M never = let (_, (s, e)) = M in says-of T s e .endless-is .1 (M, never)
 
   pub lookahead-largest : ¬ SomeEndless numbers → Lookahead S (largest numbers)
   lookahead-largest none = record {
@@ -112,16 +112,16 @@ module _ {S : Semiautomaton} (W : Within S) {numbers : List ℕ} (t : Tells S nu
         let e = h .rivals .left in
         let k = says-of T s e in
         let i = in-numbers T (member-of W T s e) in
-        let counted : ¬ (getD numbers (entry S T) 0 ≡ unmeasured) = λ z. k .unmeasured-is .0 z (c, (s, e)) in
-        let ends : ¬ (getD numbers (entry S T) 0 ≡ endless) = λ z. none (entry S T, i, z) in
-        set-more (largest-le numbers (entry S T) i counted) (k .need-is counted ends .1 .enough) h;
+        let counted : ¬ (getD numbers (placeOf S T) 0 ≡ unmeasured) = λ z. k .unmeasured-is .0 z (c, (s, e)) in
+        let ends : ¬ (getD numbers (placeOf S T) 0 ≡ endless) = λ z. none (placeOf S T, i, z) in
+        set-more (largest-le numbers (placeOf S T) i counted) (k .need-is counted ends .1 .enough) h;
     least = λ j h. elim (largest-some numbers) [
       | inl z ↦ absurd (omega (arith, h, z))
       | inr r ↦
-          let (T, o, at) = each-entry S (r .at) (rw (t .long) at (r .below)) in
-          let here : getD numbers (entry S T) 0 ≡ largest numbers = rw at (r .is) in
-          let counted : ¬ (getD numbers (entry S T) 0 ≡ unmeasured) = rw at (r .counts) in
-          let ends : ¬ (getD numbers (entry S T) 0 ≡ endless) = λ z. none (entry S T, in-numbers T o, z) in
+          let (T, o, at) = each-place S (r .at) (rw (t .long) at (r .below)) in
+          let here : getD numbers (placeOf S T) 0 ≡ largest numbers = rw at (r .is) in
+          let counted : ¬ (getD numbers (placeOf S T) 0 ≡ unmeasured) = rw at (r .counts) in
+          let ends : ¬ (getD numbers (placeOf S T) 0 ≡ endless) = λ z. none (placeOf S T, in-numbers T o, z) in
           let (M, d) = t .says T o .need-is counted ends in
           (T, M .0, d .least j (rw here h))
     ];
@@ -129,7 +129,7 @@ module _ {S : Semiautomaton} (W : Within S) {numbers : List ℕ} (t : Tells S nu
 
   pub some-endless : SomeEndless numbers → Unpredictable S
   some-endless (i, h, e) k p =
-      let (T, o, at) = each-entry S i (rw (t .long) at h) in
+      let (T, o, at) = each-place S i (rw (t .long) at h) in
       let (M, never) = t .says T o .endless-is .0 (rw at e) in
       never k (p T (M .0))
 
@@ -137,4 +137,4 @@ module _ {S : Semiautomaton} (W : Within S) {numbers : List ℕ} (t : Tells S nu
   unpredictable-endless u =
       let (c, w) = unpredictable-witness S W u in
       let o = member-of W (c .set) (c .s) (w .s-in) in
-      (entry S (c .set), in-numbers (c .set) o, endless-entry (c .set) (w .counts, (c .s, w .s-in)) (witness-endless S c w))
+      (placeOf S (c .set), in-numbers (c .set) o, endless-at (c .set) (w .counts, (c .s, w .s-in)) (witness-endless S c w))

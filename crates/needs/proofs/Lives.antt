@@ -1,6 +1,7 @@
 -- The longest that two states of a set live: what the loops keep, and what they come to.
 -- Assumes nothing.
-use mathlib.Core.Bool.{Bool, true, false, not, true≢false, false≢true, _&&_, _||_, and-true, and-false, and-not-self, and-or-distrib-left, and-or-distrib-right}
+use mathlib.Core.Bool.{Bool, true, false, not, true≢false, false≢true, _&&_, _||_}
+use mathlib.Core.Bool.{and-true, and-false, and-not-self, and-or-distrib-left, and-or-distrib-right}
 use mathlib.Core.Path.{_≡_, refl, sym, _∙_}
 use mathlib.Core.Logic.{_⊎_, inl, inr}
 use mathlib.Core.List.{List}
@@ -15,9 +16,10 @@ use Rattle.bitset.specs.Numbers.{has, setOf}
 use Rattle.bitset.proofs.Tests.{and-in, and-out, or-left, or-right, or-cases}
 use Rattle.bitset.proofs.Bits.{has-and, has-setOf}
 use Rattle.bitset.proofs.Taking.{Left, taken, taken-with, taken-all}
-use Rattle.pairs.specs.Lifetimes.{endless, lifetime}
-use Rattle.needs.specs.Needs.{unmeasured}
-use Rattle.needs.specs.inner.Longest.{Lives, Most, Longest, Entered}
+use Rattle.pairs.specs.Lifetimes.{lifetime}
+use Rattle.semiautomata.specs.Sizes.{endless, unmeasured}
+use Rattle.needs.specs.inner.Longest.{Most, LongestLived}
+use Rattle.needs.specs.inner.Entering.{Entered}
 
 -- each state of a set that has been taken, with the lower ones
 abbrev pub lower : (set rest x t : ℕ) → Bool
@@ -111,7 +113,7 @@ module _ (numbers : List ℕ) where
           ]
 
       -- every state has been taken, or a pair lives for ever
-      pub set-all : (rest ≡ 0) ⊎ (longest ≡ endless) → longest ≤ endless → Longest numbers (has set) longest
+      pub set-all : (rest ≡ 0) ⊎ (longest ≡ endless) → longest ≤ endless → LongestLived numbers (has set) longest
       set-all c few = record {
         few = few;
         all = λ ne s t a b h. elim c [
@@ -129,7 +131,7 @@ module _ (numbers : List ℕ) where
 
 -- THE NUMBER OF A SET, by the test whether it counts and is not empty
 module _ {numbers : List ℕ} {set : ℕ} {counts : Bool} where
-  pub entered-measured : {r : ℕ} → (counts && not (eqb set 0)) ≡ true → Longest numbers (has set) r → Entered numbers set counts r
+  pub entered-measured : {r : ℕ} → (counts && not (eqb set 0)) ≡ true → LongestLived numbers (has set) r → Entered numbers set counts r
   entered-measured e k = record {
     measured = λ _ _. k;
     idle = λ c.

@@ -4,9 +4,8 @@ use mathlib.Core.Bool.{Bool, true, false, false≢true}
 use mathlib.Core.Path.{_≡_, refl, sym, _∙_}
 use mathlib.Core.Logic.{inl, inr}
 use mathlib.Core.List.{List}
-use Prim.Native.Nat.{ℕ, _-_, _*_, _^_, _≤_, _<_}
+use Prim.Native.Nat.{ℕ, _^_, _≤_, _<_}
 use native.Mathlib.Decide.{ℕ-discrete}
-use native.Mathlib.Nat.{mul-le-mul}
 use native.Mathlib.Omega.{arith}
 use Rattle.bitset.specs.Numbers.{has, setOf}
 use Rattle.bitset.proofs.Tests.{decided}
@@ -20,13 +19,16 @@ use Rattle.semiautomata.proofs.Shares.{share-swap, share-shorter, member-lt, cl
 use Rattle.semiautomata.proofs.Bound.{need-bound}
 use Rattle.semiautomata.proofs.Successors.{edge-is, fit-within}
 use Rattle.semiautomata.proofs.Places.{place-fits}
+use Rattle.table.proofs.Fitness.{pairs-le}
 use Rattle.walks.proofs.Reaching.{reached-in, reached-out}
-use Rattle.pairs.specs.Lifetimes.{endless, lifetime, Lifetimes}
+use Rattle.pairs.specs.Lifetimes.{lifetime, Lifetimes}
+use Rattle.semiautomata.specs.Sizes.{endless, unmeasured}
 use Rattle.pairs.proofs.Starts.{share-starts}
-use Rattle.needs.specs.Needs.{unmeasured, Measured, Endless, Says}
-use Rattle.needs.specs.inner.Longest.{Longest, Entered}
+use Rattle.needs.specs.Needs.{Measured, NoNeed, Says}
+use Rattle.needs.specs.inner.Longest.{LongestLived}
+use Rattle.needs.specs.inner.Entering.{Entered}
 
-longest-same : {numbers : List ℕ} {X Y : ℕ → Bool} {r : ℕ} → ((s : ℕ) → Y s ≡ X s) → Longest numbers X r → Longest numbers Y r
+longest-same : {numbers : List ℕ} {X Y : ℕ → Bool} {r : ℕ} → ((s : ℕ) → Y s ≡ X s) → LongestLived numbers X r → LongestLived numbers Y r
 longest-same f k = record {
   few = k .few;
   all = λ ne s t a b. k .all ne s t (sym (f s) ∙ a) (sym (f t) ∙ b);
@@ -42,7 +44,7 @@ says-idle idle = record {
 }
 
 -- .. that counts, is not empty and has no need
-pub says-endless : {S : Semiautomaton} {T : Critical} → Measured S T → Endless S T → Says S T endless
+pub says-endless : {S : Semiautomaton} {T : Critical} → Measured S T → NoNeed S T → Says S T endless
 says-endless M never = record {
   unmeasured-is = ((λ e. absurd (omega arith)), λ idle. absurd (idle M));
   endless-is = ((λ _. (M, never)), λ _. refl);
@@ -52,9 +54,7 @@ says-endless M never = record {
 -- .. that has one, which lies below the marks
 pub says-need : {S : Semiautomaton} → Within S → S .n ≤ 64 → (T : Critical) (k : ℕ) → Measured S T → Need S (member S T) k → Says S T k
 says-need {S} W h T k M d =
-    let less : S .n - 1 ≤ 64 = omega arith in
-    let square : S .n * (S .n - 1) ≤ 64 * 64 = mul-le-mul h less in
-    let few : k ≤ 2048 = omega (arith, need-bound S W (member S T) (member-lt W T) k d, square) in
+    let few : k ≤ 2016 = omega (arith, need-bound S W (member S T) (member-lt W T) k d, pairs-le (S .n) h) in
     record {
       unmeasured-is = ((λ e. absurd (omega arith)), λ idle. absurd (idle M));
       endless-is = ((λ e. absurd (omega arith)), λ (_, never). absurd (never k (d .enough)));
@@ -69,11 +69,11 @@ module _ (n m starts : ℕ) (sets : List ℕ) (F : Fit n m sets) (H : starts < 2
   W : Within S
   W = fit-within n m starts sets F H
 
-  module _ (T : Critical) (M : Measured S T) {r : ℕ} (k : Longest numbers (member S T) r) where
+  module _ (T : Critical) (M : Measured S T) {r : ℕ} (k : LongestLived numbers (member S T) r) where
     below : (s : ℕ) → member S T s ≡ true → s < n
     below = member-lt W T
 
-    is-endless : r ≡ endless → Endless S T
+    is-endless : r ≡ endless → NoNeed S T
     is-endless e j p = elim (k .some) [
       | inl z ↦ absurd (omega arith)
       | inr (s, t, a, b, h, is) ↦ p (record {

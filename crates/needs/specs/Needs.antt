@@ -10,33 +10,29 @@ use lib.Dec.{eqb, ltb}
 use lib.ListN.{length, getD}
 use Rattle.semiautomata.specs.Semiautomaton.{Semiautomaton}
 use Rattle.semiautomata.specs.Predictability.{Critical, initial, fork, member, Counts, SetPredictable, Need}
+use Rattle.semiautomata.specs.Sizes.{endless, unmeasured}
 use Rattle.semiautomata.specs.Successors.{place}
 use Rattle.refusals.specs.Outcomes.{Outcome, refused, answered, Gives}
 use Rattle.slices.specs.Copying.{atFront}
 use Rattle.plan.specs.Asked.{Asked, refusalWith}
-use Rattle.pairs.specs.Lifetimes.{endless}
 use Rattle.needs.specs.declared.Needs.{Needs}
 use Rattle.needs.specs.declared.Needs.the-variants.{Entries, Refused}
 
 -- WHAT A NUMBER SAYS
-
--- The marks: 65,535 (`endless`, as of a pair of states) that this set has none, 65,534 that it is empty or doesn't count.
-abbrev pub unmeasured : ℕ
-unmeasured = 65534
 
 -- The critical set counts (W-202) and is not empty.
 abbrev pub Measured : Semiautomaton → Critical → Type 0
 Measured S T = Counts S T × ((s : ℕ) × (member S T s ≡ true))
 
 -- No number of letters decides between the states of T.
-abbrev pub Endless : Semiautomaton → Critical → Type 0
-Endless S T = (k : ℕ) → ¬ SetPredictable S (member S T) k
+abbrev pub NoNeed : Semiautomaton → Critical → Type 0
+NoNeed S T = (k : ℕ) → ¬ SetPredictable S (member S T) k
 
 -- 65,534 exactly if T is empty or doesn't count, 65,535 exactly if it counts, is not empty and has no need; any other number is the need of
 -- such a set.
 pub record Says (S : Semiautomaton) (T : Critical) (v : ℕ) : Type 0 where
   pub unmeasured-is : (v ≡ unmeasured) ↔ ¬ Measured S T
-  pub endless-is : (v ≡ endless) ↔ (Measured S T × Endless S T)
+  pub endless-is : (v ≡ endless) ↔ (Measured S T × NoNeed S T)
   pub need-is : ¬ (v ≡ unmeasured) → ¬ (v ≡ endless) → Measured S T × Need S (member S T) v
 
 -- THE ORDER: first the initial states, then state by state and letter by letter.
@@ -47,18 +43,18 @@ Of S initial = Unit {0}
 Of S (fork q a) = (q < S .n) × (a < S .m)
 
 -- The place of its number.
-abbrev pub entry : Semiautomaton → Critical → ℕ
-entry S initial = 0
-entry S (fork q a) = place (S .m) q a + 1
+abbrev pub placeOf : Semiautomaton → Critical → ℕ
+placeOf S initial = 0
+placeOf S (fork q a) = place (S .m) q a + 1
 
 -- How many numbers there are.
 abbrev pub entries : Semiautomaton → ℕ
 entries S = S .n * S .m + 1
 
 -- The numbers tell the need of each critical set.
-pub record Tells (S : Semiautomaton) (numbers : List ℕ) : Type 0 where
+pub record TellsNeeds (S : Semiautomaton) (numbers : List ℕ) : Type 0 where
   pub long : length numbers ≡ entries S
-  pub says : (T : Critical) → Of S T → Says S T (getD numbers (entry S T) 0)
+  pub says : (T : Critical) → Of S T → Says S T (getD numbers (placeOf S T) 0)
 
 -- The larger of two numbers, and the largest of the entries other than 65,534, 0 if there is no such entry.
 abbrev pub larger : ℕ → ℕ → ℕ
@@ -86,7 +82,7 @@ outcomeOfNeeds (Refused r) = refused r
 -- The numbers that tell the needs stand at the front of the lent ones, which keep their rest.
 pub record Filled (S : Semiautomaton) (old needs : List ℕ) : Type 0 where
   pub numbers : List ℕ
-  pub tells : Tells S numbers
+  pub tells : TellsNeeds S numbers
   pub is : needs ≡ atFront numbers old
 
 -- What the call gives.

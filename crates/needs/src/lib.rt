@@ -8,7 +8,8 @@ ghost use Rattle.bitset.specs.Numbers.{has};
 ghost use Rattle.semiautomata.specs.Successors.{successors, Fit};
 ghost use Rattle.plan.specs.Bytes.{asked};
 ghost use Rattle.needs.specs.Needs.{NeedsOf, Filled};
-ghost use Rattle.needs.specs.inner.Longest.{Most, Longest, Entered, ForksEntered};
+ghost use Rattle.needs.specs.inner.Longest.{Most, LongestLived};
+ghost use Rattle.needs.specs.inner.Entering.{Entered, ForksEntered};
 use pairs::lifetimes::ENDLESS;
 use pairs::lifetimes::PAIRS;
 use plan::Loaded;
@@ -42,7 +43,7 @@ fn longest_with(lifetimes: &[u16; PAIRS], s: usize, others: u64, before: u16) ->
 
 // The longest that two different states of the set live. Each pair is looked at once; a pair that lives for ever ends the search.
 fn longest(lifetimes: &[u16; PAIRS], set: u64) -> u16
-    ensures { λ r. ⌜ Longest (now (lifetimes .entry)) (has set) r ⌝ }
+    ensures { λ r. ⌜ LongestLived (now (lifetimes .entry)) (has set) r ⌝ }
 {
     let mut longest: u16 = 0;
     let mut rest = set;
@@ -55,7 +56,7 @@ fn longest(lifetimes: &[u16; PAIRS], set: u64) -> u16
     longest
 }
 
-// The number of a critical set.
+// The number of a critical set, by its states and whether it counts where it has some.
 fn entry(lifetimes: &[u16; PAIRS], set: u64, counts: bool) -> u16
     ensures { λ r. ⌜ Entered (now (lifetimes .entry)) set counts r ⌝ }
 {
@@ -76,7 +77,8 @@ fn enter_forks(
     reached: u64,
 )
     requires { ⌜ Fit n m (now sets) × (n * m + 1 ≤ length (now needs)) ⌝ }
-    ensures { λ r. ⌜ ForksEntered (now (lifetimes .entry)) m (now (sets .entry)) reached 0 (n * m) (now (needs .entry)) (now (needs .exit)) ⌝ }
+    ensures { λ r. ⌜ ForksEntered (now (lifetimes .entry)) m (now (sets .entry)) reached 0 (n * m) (now (needs .entry))
+        (now (needs .exit)) ⌝ }
 {
     for q in 0..n {
         let counts = bitset::contains(reached, q as u32);

@@ -1,22 +1,20 @@
--- Lifetimes written down: what a pair that is struck has lived, and what the numbers come to when no round strikes one more.
+-- Numbers of pairs written down, state by state of a row and row by row.
 -- Assumes nothing.
 use mathlib.Core.Bool.{Bool, true, false, cond, _&&_, _||_, or-false, and-not-self, and-false, and-or-distrib-left}
-use mathlib.Core.Path.{_≡_, refl, sym, _∙_}
+use mathlib.Core.Path.{_≡_, refl, _∙_}
 use mathlib.Core.List.{List}
-use Prim.Native.Nat.{ℕ, suc, _+_, _-_, _≤_, _<_}
+use Prim.Native.Nat.{ℕ, _+_, _-_, _<_}
 use native.Mathlib.Decide.{ℕ-discrete, decLt}
-use native.Mathlib.Numerals.{add-one}
 use native.Mathlib.Omega.{arith}
 use lib.Bits.{bitAnd}
 use lib.Count.{trailingZeros}
 use lib.Dec.{eqb, ltb}
-use lib.ListN.{length, getD, set, length-set}
+use lib.ListN.{length, set, length-set}
 use lib.Seq.{getD-set-same, getD-set-other}
 use borrow.Author.Tests.{eq-eqb, ne-eqb, eqb-true, lt-ltb, le-ltb}
 use Rattle.bitset.specs.Numbers.{has}
 use Rattle.bitset.proofs.Tests.{and-out, not-so}
 use Rattle.bitset.proofs.Taking.{Left, taken, taken-with, taken-all}
-use Rattle.semiautomata.specs.Sizes.{maxStates}
 use Rattle.semiautomata.specs.Successors.{place}
 use Rattle.semiautomata.proofs.Places.{place-same}
 use Rattle.rows.specs.Rows.{pair}
@@ -63,7 +61,8 @@ module _ {letters : ℕ} where
     pub row-first : {old : List ℕ} → Noted (λ x t. eqb s x && taken states states t) letters old old
     row-first = noted-none λ x t. rw (and-not-self (has states t), and-false)
 
-    module _ {rest : ℕ} (l : Left 64 states rest) {old new : List ℕ} (k : Noted (λ x t. eqb s x && taken states rest t) letters old new) where
+    module _ {rest : ℕ} (l : Left 64 states rest) {old new : List ℕ}
+        (k : Noted (λ x t. eqb s x && taken states rest t) letters old new) where
       pub row-next : 0 < rest → trailingZeros 64 rest < 64 → place 64 s (trailingZeros 64 rest) < length new
           → Noted (λ x t. eqb s x && taken states (bitAnd rest (rest - 1)) t) letters old
           (set new (place 64 s (trailingZeros 64 rest)) letters)

@@ -23,7 +23,7 @@ use Rattle.semiautomata.specs.Semiautomaton.{Semiautomaton, Within}
 use Rattle.semiautomata.specs.Predictability.{Share}
 use Rattle.semiautomata.specs.Levels.{live, Repeats}
 use Rattle.semiautomata.specs.Sizes.{maxSets}
-use Rattle.semiautomata.specs.Successors.{successors, Fit, setAt, Blank}
+use Rattle.semiautomata.specs.Successors.{successors, Fit, setAt}
 use Rattle.semiautomata.proofs.Shares.{share-swap, share-shorter}
 use Rattle.semiautomata.proofs.Levels.{with-and, live-in, live-out, live-fixed}
 use Rattle.semiautomata.proofs.Lassos.{share-ever, live-ever}
@@ -32,21 +32,12 @@ use Rattle.rows.specs.Rows.{pair, Without, Union, Common, Apart}
 use Rattle.rows.specs.Turned.{Turned}
 use Rattle.semiautomata.proofs.Places.{place-fits, zeros-at, blank}
 use Rattle.pairs.specs.Sharing.{leads, Level, LastLevel, Sharing, Lasting, Settled}
-use Rattle.pairs.specs.inner.Rounds.{Fits, ledOn, dying, falls, Struck, Paired, Waking, Ends, Standing}
+use Rattle.pairs.specs.inner.Rounds.{Fits, ledOn, dying, falls, Struck, Paired, Waking, Ends, At, Standing}
 use Rattle.pairs.proofs.Leading.{leads-in, leads-out}
 
 -- the list of work has each pair of the rows that is led on to no pair of them
 pub record Covers (S : Semiautomaton) (rows look : List ℕ) : Type 0 where
   pub covers : (s t : ℕ) → s < S .n → t < S .n → pair rows s t ≡ true → leads S rows s t ≡ false → pair look s t ≡ true
-
--- what holds before each round: what it will strike is known, and the table is turned round once the first is over
-pub record At (n m : ℕ) (sets rows struck back : List ℕ) (gone j : ℕ) : Type 0 where
-  pub wide : length rows ≡ 64
-  pub level : Level (successors n m 0 sets) j rows
-  pub ends : Ends (successors n m 0 sets) j struck gone
-  pub long : length back ≡ maxSets
-  pub fresh : j ≡ 0 → Blank maxSets back
-  pub turned : 0 < j → Turned n m sets back
 
 -- x is live now, y at the next level, w in the list of work: what is struck, and what is left
 struck-is : (x y w : Bool) → (x ≡ true → y ≡ false → w ≡ true) → (w && x && not y) ≡ (x && not y)
@@ -258,7 +249,7 @@ module _ (n m : ℕ) (sets : List ℕ) (F : Fit n m sets) where
           let on : live S (j + i) s t ≡ true =
           live-fixed S j (level-repeats z) (j + i) (omega arith) s t hs ht ∙ sym (level-is L s t hs ht) ∙ e in
           share-shorter (omega arith) (live-out S (j + i) s t on);
-      shared = λ s t hs ht f. level-is L s t hs ht ∙ live-in S W (f j);
+      shared = λ s t hs ht f. L .is s t hs ht .1 (f j);
     }
 
     -- some are struck: it is one of the first n × n rounds
@@ -283,7 +274,9 @@ module _ (n m : ℕ) (sets : List ℕ) (F : Fit n m sets) where
   pub next-ends : {rounds : ℕ} {live back struck turned look next : List ℕ} {gone : ℕ} → Standing n m sets rounds live back struck
       → Turned n m sets turned → Waking m turned struck look n → Struck S live look next gone n → Ends S rounds next gone
   next-ends i is w k =
-      round-ends (i .level) (covers-next (i .ends) (i .was) (rw (i .rounds-is) at (i .level)) is w) k
+      let E = i .at .ends in
+      let next = level-next E (i .at .level) (i .left) in
+      rw (i .next) (round-ends next (covers-next E (i .at .level) next is w) k)
 
   pub at-first : {all : ℕ} → all ≡ setOf 64 (λ t. ltb t n) → {struck : List ℕ} {gone : ℕ} → Ends S 0 struck gone
       → At n m sets (replicate 64 all) struck (replicate 2048 0) gone 0
@@ -297,26 +290,19 @@ module _ (n m : ℕ) (sets : List ℕ) (F : Fit n m sets) where
   }
 
   -- what the last round struck is taken out
-  module _ {rows struck back : List ℕ} {gone j : ℕ} (i : At n m sets rows struck back gone j) {next : List ℕ} (w : Without rows struck next n) where
+  module _ {rows struck back : List ℕ} {gone j : ℕ} (i : At n m sets rows struck back gone j) {next : List ℕ}
+      (w : Without rows struck next n) where
     pub standing : Standing n m sets (suc j) next back struck
-    standing = record {
-      before = j;
-      rounds-is = refl;
-      older = rows;
-      was = i .level;
-      gone = gone;
-      level = level-next (i .ends) (i .level) w;
-      ends = i .ends;
-      long = i .long;
-      fresh = i .fresh;
-      turned = i .turned;
-    }
+    standing = record { last = j; rows = rows; gone = gone; at = i; left = w; next = refl }
+
+    pub level-left : Level S (suc j) next
+    level-left = level-next (i .ends) (i .level) w
 
     pub at-next : {struck′ back′ : List ℕ} {gone′ : ℕ} → Ends S (suc j) struck′ gone′ × (length back′ ≡ maxSets) × Turned n m sets back′
         → At n m sets next struck′ back′ gone′ (suc j)
     at-next (e, long, is) = record {
       wide = w .long ∙ i .wide;
-      level = level-next (i .ends) (i .level) w;
+      level = level-left;
       ends = e;
       long = long;
       fresh = λ z. absurd (omega arith);
@@ -333,12 +319,12 @@ module _ (n m : ℕ) (sets : List ℕ) (F : Fit n m sets) where
       order = c .order;
       below = c .below;
       paired = c .rivals;
-      shared = live-out S j high low (sym (level-is L high low (c .below) (omega (arith, c .order, c .below))) ∙ c .lives);
+      shared = L .is high low (c .below) (omega (arith, c .order, c .below)) .0 (c .lives);
     }
 
     pub no-sharing : Apart rows rival n → ¬ Sharing S rival j
     no-sharing a h =
-        let e = level-is L (h .high) (h .low) (h .below) (omega (arith, h .order, h .below)) ∙ live-in S W (h .shared) in
+        let e = L .is (h .high) (h .low) (h .below) (omega (arith, h .order, h .below)) .1 (h .shared) in
         a .none (h .high) (h .below) (h .low) (h .order) e (h .paired)
 
   -- a pair that lives for ever is led on to such a pair

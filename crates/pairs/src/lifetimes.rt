@@ -5,9 +5,10 @@ ghost use Prim.Native.Nat.{_≤_, _<_};
 ghost use lib.Dec.{eqb, ltb};
 ghost use lib.ListN.{length, replicate};
 ghost use Rattle.bitset.specs.Numbers.{has};
+ghost use Rattle.semiautomata.specs.Sizes.{endless};
 ghost use Rattle.semiautomata.specs.Successors.{successors, Fit};
 ghost use Rattle.rows.specs.Rows.{pair};
-ghost use Rattle.pairs.specs.Lifetimes.{maxPairs, endless, Lifetimes};
+ghost use Rattle.pairs.specs.Lifetimes.{maxPairs, Lifetimes};
 ghost use Rattle.pairs.specs.inner.Noting.{Noted};
 
 // A number for each pair of states.
@@ -39,7 +40,7 @@ fn note(lifetimes: &mut [u16; PAIRS], n: usize, struck: &[u64; 64], letters: u16
     }
 }
 
-// The lifetimes of all pairs, into numbers that say of each that it lives for ever.
+// The lifetimes of all pairs, into numbers that say of each that it lives for ever; where there is no pair they are kept.
 pub fn write(lifetimes: &mut [u16; PAIRS], sets: &[u64], n: usize, m: usize)
     requires { ⌜ Fit n m (now sets) × (now lifetimes ≡ replicate maxPairs endless) ⌝ }
     ensures { λ r. ⌜ Lifetimes (successors n m 0 (now (sets .entry))) (now (lifetimes .exit)) ⌝ }

@@ -23,6 +23,10 @@ module _ (A : Asked) (P : Proper A) where
   unfolding refusalOf refusalWith
   refused-unread n b = first-before (A .checks) (short b ∷ []) n
 
+  -- a check that applies is the refusal of every call
+  pub unread : {r : ℕ} → r ≡ refusalOf A → ¬ (r ≡ 0) → (b : Bool) → r ≡ refusalWith A b
+  unread e n b = e ∙ sym (refused-unread (λ w. n (e ∙ w)) b)
+
   passing : Passes A ⊎ ¬ Passes A
   passing = elim (decided (eqb (refusalOf A) 0)) [ inl e ↦ inl (eqb-true (refusalOf A) 0 e) | inr e ↦ inr (eqb-false (refusalOf A) 0 e) ]
 

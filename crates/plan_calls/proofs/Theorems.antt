@@ -1,21 +1,25 @@
 -- The theorems of specs/Theorems.antt.
 -- Assumes nothing.
-use Prim.Native.Nat.{ℕ, _<_}
-use mathlib.Core.Path.{_≡_, _∙_}
-use mathlib.Core.List.{List}
-use mathlib.Core.Logic.{_⊎_, _↔_, inl, inr}
+use Prim.Native.Nat.{ℕ, _≤_, _<_}
+use mathlib.Core.Option.{some}
+use mathlib.Core.Path.{_≡_, refl, sym, _∙_, ap}
+use mathlib.Core.List.{List, _++_}
+use mathlib.Core.Logic.{_↔_, inl, inr}
 use native.Mathlib.Omega.{arith}
-use lib.ListN.{take}
-use Rattle.semiautomata.specs.Predictability.{Lookahead, Unpredictable}
-use Rattle.semiautomata.proofs.Shares.{lookahead-unique, lookahead-predicts}
+use lib.ListN.{getD, take}
+use Rattle.semiautomata.specs.Predictability.{Critical, named, Lookahead}
+use Rattle.semiautomata.specs.Sizes.{endless}
 use Rattle.refusals.specs.Outcomes.{Outcome, refused, answered, refusing}
 use Rattle.plan.specs.Asked.{Asked, refusalOf, Passes, Proper}
 use Rattle.plan.specs.Bytes.{meaning, asked}
 use Rattle.plan.proofs.Asked.{clear-passes}
 use Rattle.plan.proofs.Refusals.{asked-proper}
+use Rattle.prepare.specs.declared.Prepared.{Prepared}
+use Rattle.prepare.specs.declared.Prepared.the-variants as prepare
 use Rattle.prepare.specs.Preparing.{LooksAhead, outcomeOfPrepared, asNumber, Draws}
+use Rattle.prepare.specs.Theorems.{EitherCall}
 use Rattle.prepare.proofs.Answers.{small}
-use Rattle.prepare.proofs.Refusals.{count-clear, prepare-clear}
+use Rattle.prepare.proofs.Theorems.{theorems as preparing-theorems}
 use Rattle.filing.specs.declared.Writing.{Writing}
 use Rattle.filing.specs.declared.Writing.the-variants.{Bytes, Refused}
 use Rattle.filing.specs.Writing.{Writes}
@@ -23,15 +27,14 @@ use Rattle.filing.specs.Theorems.{WrittenFor}
 use Rattle.filing.proofs.Form.{written-few}
 use Rattle.needs.specs.declared.Needs.{Needs}
 use Rattle.needs.specs.declared.Needs.the-variants as told
-use Rattle.needs.specs.Needs.{Tells, largest, NeedsOf}
-use Rattle.needs.specs.Theorems.{SomeEndless}
+use Rattle.needs.specs.Needs.{Of, placeOf, largest, NeedsOf}
+use Rattle.needs.specs.Theorems.{LookedAhead, SomeEndless}
 use Rattle.needs.specs.Theorems as of-needs
-use Rattle.needs.proofs.Largest.{lookahead-largest, some-endless, unpredictable-endless}
-use Rattle.needs.proofs.Theorems.{needs-few, met}
+use Rattle.needs.proofs.Theorems.{looked, needs-few, met}
 use Rattle.numbers.specs.Numbers.{Number, value, refusal as refusal-number, answers, refuses}
 use Rattle.numbers.proofs.Answering.{gives-number}
-use Rattle.plan_calls.specs.Promises.{ofWriting, ofNeeds, claimOf}
-use Rattle.plan_calls.specs.Theorems.{LookedAhead, prepared, counted, drawn, Theorems}
+use Rattle.plan_calls.specs.Promises.{evidenceOf, ofWriting, ofNeeds, claimOf}
+use Rattle.plan_calls.specs.Theorems.{AnswersAhead, prepared, counted, drawn, ShowsEvidence, Theorems}
 use Rattle.plan_calls.proofs.Answering.{asked-numbered, unread-number, short-number, reading-number, prepared-number, counted-number}
 use Rattle.plan_calls.proofs.Answering.{checked-number}
 
@@ -66,38 +69,57 @@ told-of plan old needs r (told.Refused x) d e h = absurd (omega arith)
 
 -- WHAT A LOOK-AHEAD IS ANSWERED WITH, in numbers
 
--- k is the look-ahead, or the number of 15, where there is none
-abbrev Ahead : List ℕ → ℕ → Type 0
-Ahead plan k = Lookahead (meaning plan) k ⊎ ((k ≡ refusing 15) × Unpredictable (meaning plan))
+-- the outcome that the number stands for
+looked-ahead : (plan : List ℕ) {answer : ℕ} → AnswersAhead plan answer
+    → (o : Outcome ℕ) × LookedAhead (asked plan) o × (answer ≡ asNumber o)
+looked-ahead plan (prepared old table old′ letters old″ evidence room room′ _ (answers _ a d p)) =
+    (outcomeOfPrepared a, inl (a, old, table, old′, letters, refl, room, room′, d), p .answered)
+looked-ahead plan (prepared old table old′ letters old″ evidence _ _ room (refuses short _ _ _)) = absurd (omega arith)
+looked-ahead plan (counted old letters old′ evidence room _ (answers _ a d p)) =
+    (outcomeOfPrepared a, inr (inl (a, old, letters, refl, room, d)), p .answered)
+looked-ahead plan (counted old letters old′ evidence _ room (refuses short _ _ _)) = absurd (omega arith)
+looked-ahead plan {answer} (drawn d) = (d .outcome, inr (inr (answer, d, refl)), d .is)
 
-module _ (plan : List ℕ) where
-  -- no refusal before 15 applies
-  answered-ahead : {refusal k : ℕ} → refusal ≡ 0 → (o : Outcome ℕ) → LooksAhead refusal (meaning plan) o → k ≡ asNumber o → Ahead plan k
-  answered-ahead z (refused r) (inl (e, n)) is = absurd (n (e ∙ z))
-  answered-ahead z (refused r) (inr (_, e, u)) is = inr (rw e at is, u)
-  answered-ahead z (answered j) (_, l) is = inl (rw is l)
+module _ (plan : List ℕ) (w : Passes (asked plan)) where
+  few : {k : ℕ} → Lookahead (meaning plan) k → k ≤ 4096
+  few l = small (asked-proper plan .sized w) _ l
 
-  ahead : Passes (asked plan) → {k : ℕ} → LookedAhead plan k → Ahead plan k
-  ahead w (prepared old table old′ letters old″ evidence room room′ _ (answers _ a d p)) =
-      answered-ahead (prepare-clear (asked plan) (asked-proper plan) w _ room room′) (outcomeOfPrepared a) (d .0) (p .answered)
-  ahead w (prepared old table old′ letters old″ evidence _ _ room (refuses short _ _ _)) = absurd (omega arith)
-  ahead w (counted old letters old′ evidence room _ (answers _ a d p)) =
-      answered-ahead (count-clear (asked plan) (asked-proper plan) w room) (outcomeOfPrepared a) (d .0) (p .answered)
-  ahead w (counted old letters old′ evidence _ room (refuses short _ _ _)) = absurd (omega arith)
-  ahead w (drawn d) = answered-ahead w (d .outcome) (d .looks-ahead) (d .is)
+  -- no look-ahead has the number of 15
+  is-15 : (o : Outcome ℕ) → LooksAhead 0 (meaning plan) o → refusing 15 ≡ asNumber o → o ≡ refused 15
+  is-15 (refused r) _ e = let z : r ≡ 15 = omega arith in ap refused z
+  is-15 (answered k) (_, l) e = absurd (omega (arith, few l))
 
-  largest-ahead : Passes (asked plan) → {numbers : List ℕ} → Tells (meaning plan) numbers → {k : ℕ} → Ahead plan k
-      → (¬ SomeEndless numbers → k ≡ largest numbers) × (SomeEndless numbers ↔ (k ≡ refusing 15))
-  largest-ahead w t (inl l) =
-      let z = asked-proper plan .sized w in
-      let few = small z _ l in (
-        λ none. lookahead-unique l (lookahead-largest (z .within) t none),
-        ((λ s. absurd (lookahead-predicts l (some-endless (z .within) t s))), λ e. absurd (omega arith)),
-      )
-  largest-ahead w t (inr (e, u)) =
-      let W = asked-proper plan .sized w .within in
-      let s = unpredictable-endless W t u in
-      ((λ none. absurd (none s)), ((λ _. e), λ _. s))
+  module _ {numbers : List ℕ} (t : of-needs.Theorems (asked plan) numbers) where
+    largest-ahead : {answer : ℕ} → AnswersAhead plan answer
+        → (¬ SomeEndless numbers → answer ≡ largest numbers) × (SomeEndless numbers ↔ (answer ≡ refusing 15))
+    largest-ahead l =
+        let (o, looks, is) = looked-ahead plan l in (
+          λ none. is ∙ ap asNumber (t .largest-k none o looks),
+          (
+            (λ s. is ∙ ap asNumber (t .endless-15 o looks .0 s)),
+            λ e. t .endless-15 o looks .1 (is-15 o (looked (asked plan) (asked-proper plan) w o looks) (sym e ∙ is)),
+          ),
+        )
+
+    -- the numbers of the evidence name its set
+    shown : (a : Prepared) (old letters rest : List ℕ) {evidence : List ℕ} → EitherCall (asked plan) a old letters
+        → refusing 15 ≡ asNumber (outcomeOfPrepared a) → evidence ≡ evidenceOf a ++ rest
+        → (T : Critical) × (named (meaning plan) (getD evidence 0 0) (getD evidence 1 0) ≡ some T) × Of (meaning plan) T
+        × (getD numbers (placeOf (meaning plan) T) 0 ≡ endless)
+    shown (prepare.Ready k) old letters rest d e _ =
+        absurd (omega (arith, few (preparing-theorems (asked plan) (asked-proper plan) .ready-so k old letters d)))
+    shown (prepare.Refused r) old letters rest (inl (_, (n, _))) e _ = absurd (n (omega arith))
+    shown (prepare.Refused r) old letters rest (inr (_, _, (_, _, (n, _)))) e _ = absurd (n (omega arith))
+    shown (prepare.Unpredictable x) old letters rest d e is = rw is (t .evidence-endless x old letters d)
+
+    evidence-ahead : {evidence : List ℕ} → ShowsEvidence plan evidence
+        → (T : Critical) × (named (meaning plan) (getD evidence 0 0) (getD evidence 1 0) ≡ some T) × Of (meaning plan) T
+        × (getD numbers (placeOf (meaning plan) T) 0 ≡ endless)
+    evidence-ahead (inl (old, table, old′, letters, _, _, answers _ a d p)) =
+        shown a old′ letters _ (inr (old, table, d)) (p .answered) (p .written)
+    evidence-ahead (inl (_, _, _, _, _, room, refuses short _ _ _)) = absurd (omega arith)
+    evidence-ahead (inr (old, letters, _, _, answers _ a d p)) = shown a old letters _ (inl d) (p .answered) (p .written)
+    evidence-ahead (inr (_, _, _, room, refuses short _ _ _)) = absurd (omega arith)
 
 pub theorems : (r : ℕ) → Theorems r
 theorems r = record {
@@ -114,7 +136,10 @@ theorems r = record {
   needing = λ plan old needs p. rw (p .passed .answered) (needed-number plan old needs (p .answer) (p .meets));
   written = λ plan old out p. written-for plan old out r (p .answer) (p .meets) (p .passed .answered);
   told = λ plan old needs p h. told-of plan old needs r (p .answer) (p .meets) (p .passed .answered) h .1;
-  largest-ahead = λ plan old needs p h k l.
+  largest-ahead = λ plan old needs p h answer l.
       let (w, t) = told-of plan old needs r (p .answer) (p .meets) (p .passed .answered) h in
-      largest-ahead plan w (t .tells) (ahead plan w l);
+      largest-ahead plan w t l;
+  evidence-ahead = λ plan old needs p h evidence s.
+      let (w, t) = told-of plan old needs r (p .answer) (p .meets) (p .passed .answered) h in
+      evidence-ahead plan w t s;
 }

@@ -40,10 +40,11 @@ ofPrepared a = valued (asNumber (outcomeOfPrepared a)) (evidenceOf a)
 abbrev pub ofChecked : Checked → Numbers
 ofChecked a = inNumbers (λ yes. valued (one-if yes) []) (outcomeOfChecked a)
 
--- How many bytes, and how many numbers.
+-- How many bytes.
 abbrev pub ofWriting : Writing → Numbers
 ofWriting a = inNumbers (λ count. valued count []) (outcomeOfWriting a)
 
+-- How many needs.
 abbrev pub ofNeeds : Needs → Numbers
 ofNeeds a = inNumbers (λ count. valued count []) (outcomeOfNeeds a)
 

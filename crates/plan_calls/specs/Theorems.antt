@@ -3,29 +3,40 @@
 -- proofs/Theorems.antt has the proofs.
 -- Assumes nothing.
 use Prim.Native.Nat.{ℕ, _+_, _*_, _≤_, _<_}
-use mathlib.Core.Logic.{_↔_}
+use mathlib.Core.Option.{some}
+use mathlib.Core.Logic.{_⊎_, _↔_}
 use mathlib.Core.Path.{_≡_}
 use mathlib.Core.List.{List}
-use lib.ListN.{length, take}
+use lib.ListN.{length, getD, take}
+use Rattle.semiautomata.specs.Predictability.{Critical, named}
+use Rattle.semiautomata.specs.Sizes.{endless}
 use Rattle.plan.specs.Bytes.{meaning, asked}
 use Rattle.table.specs.Table.{setsFrom}
 use Rattle.prepare.specs.Preparing.{Draws}
 use Rattle.filing.specs.Theorems.{WrittenFor}
-use Rattle.needs.specs.Needs.{largest}
+use Rattle.needs.specs.Needs.{Of, placeOf, largest}
 use Rattle.needs.specs.Theorems.{SomeEndless}
 use Rattle.needs.specs.Theorems as of-needs
 use Rattle.refusals.specs.Outcomes.{refusing}
 use Rattle.numbers.specs.Numbers.{Number}
 use Rattle.plan_calls.specs.Promises.{PassesReading, PassesPrepared, PassesCount, PassesCheck, PassesWriting, PassesNeeds}
 
--- k is what preparing, the count call or the drawing program's entry answers for C, buffers lent to it being long enough.
-pub data LookedAhead (plan : List ℕ) (k : ℕ) : Type 0 where
+-- What preparing, the count call or the drawing program's entry answers for C, buffers lent to it being long enough.
+pub data AnswersAhead (plan : List ℕ) (answer : ℕ) : Type 0 where
   prepared : (old table old′ letters old″ evidence : List ℕ) → setsFrom + meaning plan .n * meaning plan .m ≤ length old
       → meaning plan .n * meaning plan .n ≤ length old′ → 6 ≤ length old″
-      → PassesPrepared (asked plan) k old table old′ letters old″ evidence → LookedAhead plan k
+      → PassesPrepared (asked plan) answer old table old′ letters old″ evidence → AnswersAhead plan answer
   counted : (old letters old′ evidence : List ℕ) → meaning plan .n * meaning plan .n ≤ length old → 6 ≤ length old′
-      → PassesCount (asked plan) k old letters old′ evidence → LookedAhead plan k
-  drawn : Draws (asked plan) k → LookedAhead plan k
+      → PassesCount (asked plan) answer old letters old′ evidence → AnswersAhead plan answer
+  drawn : Draws (asked plan) answer → AnswersAhead plan answer
+
+-- Preparing or the count call answers 15 for C with this evidence.
+abbrev pub ShowsEvidence : List ℕ → List ℕ → Type 0
+ShowsEvidence plan evidence =
+    ((old : List ℕ) × (table : List ℕ) × (old′ : List ℕ) × (letters : List ℕ) × (old″ : List ℕ) × (6 ≤ length old″)
+    × PassesPrepared (asked plan) (refusing 15) old table old′ letters old″ evidence)
+    ⊎ ((old : List ℕ) × (letters : List ℕ) × (old′ : List ℕ) × (6 ≤ length old′)
+    × PassesCount (asked plan) (refusing 15) old letters old′ evidence)
 
 pub record Theorems (r : ℕ) : Type 0 where
   pub reading : (plan old counts : List ℕ) → PassesReading plan r old counts → Number r
@@ -40,7 +51,11 @@ pub record Theorems (r : ℕ) : Type 0 where
   pub written : (plan old out : List ℕ) → PassesWriting plan r old out → r < 65536 → WrittenFor plan (take r out)
   -- .. what needs/specs/Theorems speaks of.
   pub told : (plan old needs : List ℕ) → PassesNeeds (asked plan) r old needs → r < 65536 → of-needs.Theorems (asked plan) (take r needs)
-  -- Where no entry is 65,535, the look-ahead answered is the largest of the entries other than 65,534, or 0 if there is no such entry; and
-  -- some entry is 65,535 exactly if 15 is answered.
-  pub largest-ahead : (plan old needs : List ℕ) → PassesNeeds (asked plan) r old needs → r < 65536 → (k : ℕ) → LookedAhead plan k
-      → (¬ SomeEndless (take r needs) → k ≡ largest (take r needs)) × (SomeEndless (take r needs) ↔ (k ≡ refusing 15))
+  -- Where no entry is 65,535, k is answered, the largest of the entries other than 65,534, or 0 if there is no such entry; some entry is
+  -- 65,535 exactly if 15 is answered; and the set that the evidence names has it.
+  pub largest-ahead : (plan old needs : List ℕ) → PassesNeeds (asked plan) r old needs → r < 65536 → (answer : ℕ) → AnswersAhead plan answer
+      → (¬ SomeEndless (take r needs) → answer ≡ largest (take r needs)) × (SomeEndless (take r needs) ↔ (answer ≡ refusing 15))
+  pub evidence-ahead : (plan old needs : List ℕ) → PassesNeeds (asked plan) r old needs → r < 65536
+      → (evidence : List ℕ) → ShowsEvidence plan evidence
+      → (T : Critical) × (named (meaning plan) (getD evidence 0 0) (getD evidence 1 0) ≡ some T) × Of (meaning plan) T
+      × (getD (take r needs) (placeOf (meaning plan) T) 0 ≡ endless)

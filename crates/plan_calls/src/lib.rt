@@ -1,6 +1,6 @@
 // The calls on plan bytes for C, over plain numbers and lent slices: reading, preparing, the count call, the drawing program's entry, the
-// check of a claim, writing, the needs of the critical sets. Where a slice for further values has too few places for the most that a call may have to put there, the
-// call is refused with 9 before anything is written.
+// check of a claim, writing, the needs of the critical sets. Where a slice for further values has too few places for the most that a call
+// may have to put there, the call is refused with 9 before anything is written.
 ghost use mathlib.Core.Path.{_≡_};
 ghost use Prim.Native.Nat.{_≤_};
 ghost use lib.ListN.{length, getD};

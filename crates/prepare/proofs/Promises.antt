@@ -1,7 +1,6 @@
 -- The promises of preparing and of the count call, put together and taken apart for each case of the answer.
 -- Assumes nothing.
 use Prim.Native.Nat.{ℕ}
-use mathlib.Core.Bool.{Bool}
 use mathlib.Core.Path.{_≡_, refl, sym, _∙_}
 use mathlib.Core.Logic.{inl, inr}
 use mathlib.Core.List.{List}
@@ -10,11 +9,11 @@ use Rattle.semiautomata.specs.Semiautomaton.{Semiautomaton}
 use Rattle.semiautomata.specs.Predictability.{Unpredictable}
 use Rattle.refusals.specs.Outcomes.{refused}
 use Rattle.semiautomata.proofs.Decide.{witness-unpredictable}
-use Rattle.plan.specs.Asked.{Asked, refusalOf, refusalWith, Proper}
+use Rattle.plan.specs.Asked.{Asked, Proper}
 use Rattle.lookahead.specs.declared.Evidence.{Evidence}
 use Rattle.prepare.specs.declared.Prepared.the-variants as prepared
 use Rattle.prepare.specs.Preparing.{countRefusal, prepareRefusal, Shown, LooksAhead, Prepares, CountsTo}
-use Rattle.plan.proofs.Asked.{refused-unread, not-15}
+use Rattle.plan.proofs.Asked.{not-15}
 
 -- evidence shown tells that there is no look-ahead
 pub shown-never : {S : Semiautomaton} {e : Evidence} {old letters : List ℕ} → Shown S e old letters → Unpredictable S
@@ -58,7 +57,3 @@ module _ (A : Asked) (P : Proper A) where
   pub prepare-never-so : {e : Evidence} {old table old′ letters : List ℕ} → Prepares A (prepared.Unpredictable e) old table old′ letters
       → (prepareRefusal A (length old) (length old′) ≡ 0) × Shown (A .means) e old′ letters × (table ≡ old)
   prepare-never-so (l, t, s) = (none-before (not-15 A P _) l, s, t)
-
-  -- a check that applies is the refusal of every call
-  pub unread : {r : ℕ} → r ≡ refusalOf A → ¬ (r ≡ 0) → (b : Bool) → r ≡ refusalWith A b
-  unread e n b = e ∙ sym (refused-unread A P (λ w. n (e ∙ w)) b)

@@ -133,18 +133,23 @@ module _ (S : Semiautomaton) where
       least = λ j h. clashIn-out X j (before j h);
     }
 
+    -- a set of states that clashes with n × n letters clashes with any number
+    pub clash-endless : (X : ℕ → Bool) → ((s : ℕ) → X s ≡ true → s < S .n) → clashIn S X (S .n * S .n) ≡ true
+        → (k : ℕ) → ¬ SetPredictable S X k
+    clash-endless X below e k p =
+        let c = clashIn-out X (S .n * S .n) e in
+        let r = c .rivals in
+        p (record {
+          s = c .s;
+          t = c .t;
+          rivals = r;
+          shared =
+              share-ever S W (c .s) (c .t) (below (c .s) (r .left)) (below (c .t) (r .right)) (c .shared) k;
+        })
+
     pub need-either : (X : ℕ → Bool) → ((s : ℕ) → X s ≡ true → s < S .n) → ((k : ℕ) × Need S X k) ⊎ ((k : ℕ) → ¬ SetPredictable S X k)
     need-either X below = elim (first-failure (clashIn S X) (suc (S .n * S .n))) [
-      | inl all ↦ inr (λ k p.
-          let c = clashIn-out X (S .n * S .n) (all (S .n * S .n) (omega arith)) in
-          let r = c .rivals in
-          p (record {
-            s = c .s;
-            t = c .t;
-            rivals = r;
-            shared =
-                share-ever S W (c .s) (c .t) (below (c .s) (r .left)) (below (c .t) (r .right)) (c .shared) k;
-          }))
+      | inl all ↦ inr (clash-endless X below (all (S .n * S .n) (omega arith)))
       | inr (k, e, before) ↦ inl (k, need-first X below k before e)
     ]
 

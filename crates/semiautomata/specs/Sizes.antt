@@ -1,4 +1,4 @@
--- The sizes of a plan (document 01, Plan bytes), and of a look-ahead.
+-- The sizes of a plan (document 01, Plan bytes), and of a look-ahead; the marks beside needs.
 -- Assumes nothing.
 use Prim.Native.Nat.{ℕ, _-_, _*_, _/_, _≤_}
 use Rattle.semiautomata.specs.Semiautomaton.{Semiautomaton, Within}
@@ -31,3 +31,10 @@ mostAhead n = n * (n - 1) / 2
 
 abbrev pub maxLookahead : ℕ
 maxLookahead = 2016
+
+-- Where a need stands, 65,535 says that there is none, and 65,534 that a critical set is empty or doesn't count (document 02, W-205).
+abbrev pub endless : ℕ
+endless = 65535
+
+abbrev pub unmeasured : ℕ
+unmeasured = 65534

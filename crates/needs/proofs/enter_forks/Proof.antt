@@ -8,7 +8,7 @@ use borrow.Author.Needs.{needs}
 use Rattle.semiautomata.specs.Successors.{place}
 use Rattle.semiautomata.proofs.Places.{place-in, place-small}
 use Rattle.semiautomata.proofs.Successors.{place-lt}
-use Rattle.needs.specs.inner.Longest.{ForksEntered}
+use Rattle.needs.specs.inner.Entering.{ForksEntered}
 use Rattle.needs.proofs.Entering.{forks-first, forks-row, forks-next, forks-rows}
 use Rattle.needs.proofs.enter_forks.Statement.{statement}
 use Rattle.needs.proofs.enter_forks.Tie as tie

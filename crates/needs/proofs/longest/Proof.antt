@@ -1,7 +1,7 @@
 -- `longest` meets its contract.
 -- Assumes nothing.
 use Prim.Native.Nat.{_≤_, _<_}
-use mathlib.Core.Bool.{not, _&&_}
+use mathlib.Core.Bool.{not}
 use mathlib.Core.Logic.{_⊎_, inl, inr}
 use mathlib.Core.Path.{_≡_}
 use native.Mathlib.Omega.{arith}
@@ -11,7 +11,7 @@ use borrow.Author.Tests.{eqb-true, eqb-false, not-true, not-false}
 use Rattle.bitset.proofs.Tests.{and-out, decided}
 use Rattle.bitset.proofs.Members.{strike-less, least-word}
 use Rattle.bitset.proofs.Taking.{Left, left-first, left-next, least-below}
-use Rattle.pairs.specs.Lifetimes.{endless}
+use Rattle.semiautomata.specs.Sizes.{endless}
 use Rattle.needs.specs.inner.Longest.{Most}
 use Rattle.needs.proofs.Lives.{lower, set-first, set-next, set-all}
 use Rattle.needs.proofs.longest.Statement.{statement}

@@ -13,8 +13,8 @@ use borrow.Author.Tests.{not-true, not-false}
 use Rattle.semiautomata.specs.Successors.{successors}
 use Rattle.rows.specs.Rows.{Common}
 use Rattle.pairs.specs.Sharing.{Sharing}
-use Rattle.pairs.specs.inner.Rounds.{Standing}
-use Rattle.pairs.proofs.Rounds.{At, level-zero, at-first, round-early, standing, at-next, stable, some-sharing, no-sharing}
+use Rattle.pairs.specs.inner.Rounds.{At, Standing}
+use Rattle.pairs.proofs.Rounds.{level-zero, at-first, round-early, standing, level-left, at-next, stable, some-sharing, no-sharing}
 use Rattle.pairs.proofs.settle.Statement.{statement}
 use Rattle.pairs.proofs.settle.Tie as tie
 
@@ -101,8 +101,10 @@ returns-3 : tie.Need-returns-3 Inv-loop μ-loop
 returns-3 c =
     let k = c .before .before in
     let t = turn (left k) in
+    let f = start (t .before) .pre in
+    let next = level-left _ _ _ f (t .before .loop .inv .0) (left k .without .ensures .0) in
     let apart = k .common2 .ensures .1 (not-true _ (c .if3 .taken)) in (
-      (λ _. record { enough = rw add-one (no-sharing _ _ _ (start (t .before) .pre) (level (left k) .level) apart); least = shared t }),
+      (λ _. record { enough = rw add-one (no-sharing _ _ _ f next apart); least = shared t }),
       λ e. absurd (false≢true e),
     )
 

@@ -1,6 +1,5 @@
 -- `strike_next` meets its contract.
 -- Assumes nothing.
-use Prim.Native.Nat.{_<_}
 use mathlib.Core.Logic.{⊎-elim}
 use mathlib.Core.Path.{_≡_, refl}
 use native.Mathlib.Omega.{arith}
@@ -27,10 +26,11 @@ round : (c : tie.Joined1) →
     let a = start (c .before) .args in
     (length (c .if1 .back) ≡ maxSets) × Turned (a .n) (a .m) (a .sets .now) (c .if1 .back)
 round c =
-    let i = start (c .before) .pre .1 in
+    let p = start (c .before) .pre .1 in
+    let i = p .at in
     ⊎-elim
     (λ w. rw (w .3) (w .2 .ensures))
-    (λ w. rw (w .1) (i .long, i .turned (omega (arith, i .rounds-is, w .0 .left))))
+    (λ w. rw (w .1) (i .long, i .turned (omega (arith, p .next, w .0 .left))))
     (c .if1 .came)
 
 wake-requires : tie.Need-wake-requires
@@ -38,7 +38,7 @@ wake-requires c κs =
     let k = c .before .before .before .before in
     let (f, i) = start (k .before) .pre in
     let (long, is) = round k in
-    (turned-fit f long is, i .ends .fits, refl)
+    (turned-fit f long is, i .at .ends .fits, refl)
 
 returns : tie.Need-returns
 returns c =
@@ -54,7 +54,7 @@ strike-next-spec =
     (tie.spec
     (λ c κs.
     let s = c .before .before .before in
-    (s .pre .0, s .pre .1 .fresh (omega (arith, s .pre .1 .rounds-is, c .before .if1 .taken))))
+    (s .pre .0, s .pre .1 .at .fresh (omega (arith, s .pre .1 .next, c .before .if1 .taken))))
     wake-requires
     (λ c κs. (start (turned (c .before .before .before) .before) .pre .0, refl))
     returns)

@@ -13,7 +13,7 @@ use Rattle.semiautomata.specs.Semiautomaton.{Semiautomaton}
 use Rattle.semiautomata.specs.Walks.{step}
 use Rattle.semiautomata.specs.Sizes.{maxStates, maxSets}
 use Rattle.semiautomata.specs.Successors.{successors, setAt, Blank}
-use Rattle.rows.specs.Rows.{pair}
+use Rattle.rows.specs.Rows.{pair, Without}
 use Rattle.rows.specs.Turned.{Turned}
 use Rattle.pairs.specs.Sharing.{leads, Level, LastLevel}
 
@@ -67,15 +67,20 @@ pub record Ends (S : Semiautomaton) (j : ℕ) (struck : List ℕ) (gone : ℕ) :
   pub none : gone ≡ 0 → (s t : ℕ) → s < S .n → t < S .n → pair struck s t ≡ false
   pub some : ¬ (gone ≡ 0) → (s : ℕ) × (t : ℕ) × (s < S .n) × (t < S .n) × (pair struck s t ≡ true)
 
--- where the rounds stand once the pairs that the last one struck are taken out; the table is turned round once a second one is over
-pub record Standing (n m : ℕ) (sets : List ℕ) (rounds : ℕ) (live back struck : List ℕ) : Type 0 where
-  pub before : ℕ
-  pub rounds-is : rounds ≡ suc before
-  pub older : List ℕ
-  pub was : Level (successors n m 0 sets) before older
-  pub level : Level (successors n m 0 sets) rounds live
-  pub gone : ℕ
-  pub ends : Ends (successors n m 0 sets) before struck gone
+-- what holds before each round: what it will strike is known, and the table is turned round once the first is over
+pub record At (n m : ℕ) (sets rows struck back : List ℕ) (gone j : ℕ) : Type 0 where
+  pub wide : length rows ≡ maxStates
+  pub level : Level (successors n m 0 sets) j rows
+  pub ends : Ends (successors n m 0 sets) j struck gone
   pub long : length back ≡ maxSets
-  pub fresh : before ≡ 0 → Blank maxSets back
-  pub turned : 0 < before → Turned n m sets back
+  pub fresh : j ≡ 0 → Blank maxSets back
+  pub turned : 0 < j → Turned n m sets back
+
+-- after so many rounds the struck pairs are taken out of the rows
+pub record Standing (n m : ℕ) (sets : List ℕ) (rounds : ℕ) (live back struck : List ℕ) : Type 0 where
+  pub last : ℕ
+  pub rows : List ℕ
+  pub gone : ℕ
+  pub at : At n m sets rows struck back gone last
+  pub left : Without rows struck live n
+  pub next : rounds ≡ suc last

@@ -1,14 +1,14 @@
 -- `lifetimes::write` meets its contract.
 -- Assumes nothing.
-use Prim.Native.Nat.{suc, _+_, _*_, _<_, _-_}
+use Prim.Native.Nat.{suc, _*_, _<_, _-_}
 use mathlib.Core.Path.{refl}
 use native.Mathlib.Nat.{mul-le-mul}
 use native.Mathlib.Numerals.{add-one}
 use native.Mathlib.Omega.{arith}
 use borrow.Author.Needs.{needs}
 use Rattle.semiautomata.specs.Successors.{successors}
-use Rattle.pairs.specs.inner.Rounds.{Standing}
-use Rattle.pairs.proofs.Rounds.{At, level-zero, at-first, round-early, standing, at-next, lasting}
+use Rattle.pairs.specs.inner.Rounds.{At, Standing}
+use Rattle.pairs.proofs.Rounds.{level-zero, at-first, round-early, standing, level-left, at-next, lasting}
 use Rattle.pairs.proofs.Timing.{Timed, timed-first, timed-next, timed-last}
 use Rattle.pairs.proofs.lifetimes.write.Statement.{statement}
 use Rattle.pairs.proofs.lifetimes.write.Tie as tie
@@ -62,9 +62,10 @@ loop-again c =
     let t = turn w in
     let l = t .before in
     let f = start l .pre .0 in
-    let (i, timed) = l .loop .inv in (
+    let (i, timed) = l .loop .inv in
+    let next = level-left _ _ _ f i (w .without .ensures .0) in (
       rw add-one (at-next _ _ _ f i (w .without .ensures .0) (rw add-one at (c .strike-next .ensures))),
-      timed-next (f .states) (i .level) (level w .level) (i .ends) (omega (arith, few t)) (rw add-one at (k .note .ensures)) timed,
+      timed-next (f .states) (i .level) next (i .ends) (omega (arith, few t)) (rw add-one at (k .note .ensures)) timed,
     )
 
 pub write-spec : {M : Type 1} → statement M
