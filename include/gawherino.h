@@ -205,11 +205,11 @@ uint32_t gawherino_check(const uint8_t *plan, size_t plan_len, const uint32_t *c
 uint32_t gawherino_write(const uint8_t *plan, size_t plan_len, uint8_t *out, size_t out_len);
 
 /* The need of each critical set by itself: how many numbers it wrote, n * m + 1; into needs: at 0 that of the starts, at
- * 1 + stake * m + code that of what the code leads to from the stake. The need of a set is the least number of codes with which no two
- * different stakes of it can both be walked on by the same codes; a set of one stake needs 0. 65,535 is a set that has none,
- * 65,534 one that is empty, the starts too, or does not count (a fork of a stake that no walk reaches); no need is higher than 2,016.
- * Where no number is 65,535, k is the largest of those other than 65,534, or 0 if there is no other; where one is, preparing and the
- * count answer 15. Refused with 1 to 7, 9, and never with 15. */
+ * 1 + stake * m + code that of what the code leads to from the stake. A need is the least k for which no two different stakes of the set
+ * can be walked on from by the same k codes: 0 for a set of one stake, never more than 2,016. 65,535 is a set that has none, 65,534 one
+ * that is empty, the starts too, or does not count (a fork of a stake that no walk reaches). If no number is 65,535, the plan's k is the
+ * largest of those other than 65,534, or 0 if there is no other; else preparing and the count answer 15, lent slices being long enough.
+ * Refused with 1 to 7, 9, and never with 15. */
 uint32_t gawherino_needs(const uint8_t *plan, size_t plan_len, uint16_t *needs, size_t needs_len);
 
 /* CALLS ON A TABLE */

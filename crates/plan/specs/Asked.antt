@@ -1,5 +1,5 @@
--- What a call asks of plan bytes: all that preparing, counting and checking a claim know of them; and its refusal where it looks at its
--- lent buffers next.
+-- What a call asks of plan bytes: all that preparing, counting, the check of a claim and the needs know of them; and its refusal where it
+-- looks at its lent buffers next.
 -- Assumes nothing.
 use Prim.Native.Nat.{ℕ}
 use mathlib.Core.Bool.{Bool}
