@@ -1,7 +1,7 @@
 // The look-ahead of a semiautomaton by its successor sets, or the witness that there is none; never from plan bytes.
 // Which pairs of states are rivals is worked out here, which pairs share words in crate pairs: the first number of letters with which no
 // rivals do is the look-ahead.
-mod rivals; // rivals.rt: the rows of rivals, and the states that some walk reaches
+pub mod rivals; // rivals.rt: the rows of rivals, and the states that some walk reaches
 mod witness; // witness.rt: the critical set and the lasso of two states that share words of every length
 
 ghost use Prim.Native.Nat.{_*_, _^_, _≤_, _<_};
@@ -32,7 +32,9 @@ pub fn look_ahead(sets: &[u64], n: usize, m: usize, starts: u64, letters: &mut [
 {
     let mut rival = [0u64; 64];
     let reached = rivals::rivals(&mut rival, sets, n, m, starts);
-    let found = pairs::settle(sets, n, m, &rival);
+    // no lifetimes are asked for
+    let mut none = [0u16; 0];
+    let found = pairs::settle(&mut none, sets, n, m, &rival);
     if !found.stable {
         return Found::Lookahead(found.rounds);
     }

@@ -18,6 +18,7 @@ use Rattle.semiautomata.specs.Successors.{place, successors, setAt, Fit}
 use Rattle.semiautomata.proofs.Places.{place-same}
 use Rattle.semiautomata.proofs.Successors.{place-lt}
 use Rattle.pairs.specs.Lifetimes.{Lifetimes}
+use Rattle.lookahead.specs.inner.Rivals.{Rivalry}
 use Rattle.needs.specs.Needs.{Says, Of, placeOf, Filled}
 use Rattle.needs.specs.inner.Entering.{Entered, ForksEntered}
 use Rattle.needs.proofs.Saying.{says-initial, says-fork}
@@ -73,8 +74,9 @@ module _ {numbers : List ℕ} {m : ℕ} {sets : List ℕ} {reached : ℕ} where
   forks-rows q k l = let e : (q + 1) * m ≡ place m q m = rw add-one (suc-mul q m) in rw e (forks-then (omega arith) (omega arith) k l)
 
 -- all numbers together
-module _ (n m starts : ℕ) (sets : List ℕ) (F : Fit n m sets) (H : starts < 2 ^ n) {numbers : List ℕ}
-    (L : Lifetimes (successors n m 0 sets) numbers) {reached : ℕ} (R : reached ≡ setOf n (accessible (successors n m starts sets))) where
+module _ (n m starts : ℕ) (sets : List ℕ) (F : Fit n m sets) (H : starts < 2 ^ n) {rival numbers : List ℕ}
+    (G : Rivalry (successors n m starts sets) rival) (L : Lifetimes (successors n m 0 sets) rival numbers)
+    {reached : ℕ} (R : reached ≡ setOf n (accessible (successors n m starts sets))) where
   pub filled : {v : ℕ} {old needs : List ℕ} → n * m + 1 ≤ length old → Entered numbers starts true v
       → ForksEntered numbers m sets reached 0 (n * m) (set old 0 v) needs → Filled (successors n m starts sets) old needs
   filled {v} {old} {needs} room e k = record {
@@ -96,8 +98,8 @@ module _ (n m starts : ℕ) (sets : List ℕ) (F : Fit n m sets) (H : starts < 2
       says initial _ =
           let z : getD (take (n * m + 1) needs) 0 0 ≡ v =
           getD-take (n * m + 1) needs 0 0 (omega arith) ∙ k .kept 0 (inl (omega arith)) ∙ getD-set-same old 0 v 0 (omega (arith, room)) in
-          rw z (says-initial n m starts sets F H L e)
+          rw z (says-initial n m starts sets F H G L e)
       says (fork q a) (h, g) =
           let l = place-lt n m q a h g in
           rw (getD-take (n * m + 1) needs (place m q a + 1) 0 (omega (arith, l)))
-          (says-fork n m starts sets F H L R q a h g (k .entered q a g (omega arith) l))
+          (says-fork n m starts sets F H G L R q a h g (k .entered q a g (omega arith) l))

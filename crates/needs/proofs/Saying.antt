@@ -21,7 +21,8 @@ use Rattle.semiautomata.proofs.Successors.{edge-is, fit-within}
 use Rattle.semiautomata.proofs.Places.{place-fits}
 use Rattle.table.proofs.Fitness.{pairs-le}
 use Rattle.walks.proofs.Reaching.{reached-in, reached-out}
-use Rattle.pairs.specs.Lifetimes.{lifetime, Lifetimes}
+use Rattle.pairs.specs.Lifetimes.{Lifetime, lifetime, Lifetimes}
+use Rattle.lookahead.specs.inner.Rivals.{Rivalry}
 use Rattle.semiautomata.specs.Sizes.{endless, unmeasured}
 use Rattle.pairs.proofs.Starts.{share-starts}
 use Rattle.needs.specs.Needs.{Measured, NoNeed, Says}
@@ -61,8 +62,8 @@ says-need {S} W h T k M d =
       need-is = λ _ _. (M, d);
     }
 
-module _ (n m starts : ℕ) (sets : List ℕ) (F : Fit n m sets) (H : starts < 2 ^ n) {numbers : List ℕ}
-    (L : Lifetimes (successors n m 0 sets) numbers) where
+module _ (n m starts : ℕ) (sets : List ℕ) (F : Fit n m sets) (H : starts < 2 ^ n) {rival numbers : List ℕ}
+    (G : Rivalry (successors n m starts sets) rival) (L : Lifetimes (successors n m 0 sets) rival numbers) where
   abbrev S : Semiautomaton
   S = successors n m starts sets
 
@@ -73,6 +74,12 @@ module _ (n m starts : ℕ) (sets : List ℕ) (F : Fit n m sets) (H : starts < 2
     below : (s : ℕ) → member S T s ≡ true → s < n
     below = member-lt W T
 
+    -- two states of it are rivals, so that their lifetime is known
+    life : {s t : ℕ} → t < s → member S T s ≡ true → member S T t ≡ true → Lifetime (successors n m 0 sets) s t (lifetime numbers s t)
+    life {s} {t} h a b =
+        let differ : ¬ (s ≡ t) = λ e. omega arith in
+        L .is s t h (below s a) (G .into s t differ (record { set = T; counts = M .0; left = a; right = b }))
+
     is-endless : r ≡ endless → NoNeed S T
     is-endless e j p = elim (k .some) [
       | inl z ↦ absurd (omega arith)
@@ -80,7 +87,7 @@ module _ (n m starts : ℕ) (sets : List ℕ) (F : Fit n m sets) (H : starts < 2
         s = s;
         t = t;
         rivals = record { left = a; right = b; differ = omega arith };
-        shared = share-starts n m sets 0 starts (L .is s t (below s a) (below t b) .lasts (is ∙ e) j);
+        shared = share-starts n m sets 0 starts (life h a b .lasts (is ∙ e) j);
       })
     ]
 
@@ -91,7 +98,7 @@ module _ (n m starts : ℕ) (sets : List ℕ) (F : Fit n m sets) (H : starts < 2
           let d = o .clash in
           let h = k .all ne (d .t) (d .s) (d .rivals .right) (d .rivals .left) (o .order) in
           let ends : ¬ (lifetime numbers (d .t) (d .s) ≡ endless) = λ e. omega (arith, h, ne, k .few) in
-          L .is (d .t) (d .s) (below (d .t) (d .rivals .right)) (below (d .s) (d .rivals .left)) .ends ends
+          life (o .order) (d .rivals .right) (d .rivals .left) .ends ends
           (share-shorter h (share-swap (share-starts n m sets starts 0 (d .shared))));
       least = λ j g. elim (k .some) [
         | inl z ↦ absurd (omega arith)
@@ -99,7 +106,7 @@ module _ (n m starts : ℕ) (sets : List ℕ) (F : Fit n m sets) (H : starts < 2
           s = s;
           t = t;
           rivals = record { left = a; right = b; differ = omega arith };
-          shared = share-starts n m sets 0 starts (L .is s t (below s a) (below t b) .lives j (omega (arith, is)));
+          shared = share-starts n m sets 0 starts (life h a b .lives j (omega (arith, is)));
         }
       ];
     }

@@ -1,5 +1,6 @@
-// The need of each critical set by itself (W-205): for how long its states share words. How long each pair of states lives comes from
-// crate pairs, which sets count from the states that walks reach; a set's need is the longest that two of its states live.
+// The need of each critical set by itself (W-205): for how long its states share words. Which pairs of states are rivals, and which
+// states walks reach, comes from crate lookahead, how long rivals live from crate pairs, as the look-ahead does; a set's need is the
+// longest that two of its states live.
 ghost use mathlib.Core.Bool.{_&&_};
 ghost use Prim.Native.Nat.{_+_, _*_, _^_, _≤_, _<_};
 ghost use lib.Dec.{eqb};
@@ -93,9 +94,10 @@ fn enter(needs: &mut [u16], sets: &[u64], n: usize, m: usize, starts: u64)
     requires { ⌜ Fit n m (now sets) × (starts < 2 ^ n) × (n * m + 1 ≤ length (now needs)) ⌝ }
     ensures { λ r. ⌜ Filled (successors n m starts (now (sets .entry))) (now (needs .entry)) (now (needs .exit)) ⌝ }
 {
+    let mut rival = [0u64; 64];
+    let reached = lookahead::rivals::rivals(&mut rival, sets, n, m, starts);
     let mut lifetimes = [ENDLESS; PAIRS];
-    pairs::lifetimes::write(&mut lifetimes, sets, n, m);
-    let reached = walks::reachable(sets, n, m, starts);
+    pairs::settle(&mut lifetimes, sets, n, m, &rival);
     needs[0] = entry(&lifetimes, starts, true);
     enter_forks(needs, &lifetimes, sets, n, m, reached);
 }

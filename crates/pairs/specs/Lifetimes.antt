@@ -1,14 +1,15 @@
 -- How long a pair of states lives: the number of letters from which on the two share no word. A number for each pair.
 -- Assumes nothing.
-use Prim.Native.Nat.{ℕ, _*_, _≤_, _<_}
-use mathlib.Core.Logic.{_⊎_}
+use Prim.Native.Nat.{ℕ, _*_, _<_}
+use mathlib.Core.Bool.{true}
 use mathlib.Core.Path.{_≡_}
 use mathlib.Core.List.{List}
-use lib.ListN.{length, getD}
+use lib.ListN.{length, getD, replicate}
 use Rattle.semiautomata.specs.Semiautomaton.{Semiautomaton}
 use Rattle.semiautomata.specs.Predictability.{Share}
 use Rattle.semiautomata.specs.Sizes.{maxStates, endless}
 use Rattle.semiautomata.specs.Successors.{place}
+use Rattle.rows.specs.Rows.{pair}
 
 -- The two share a word of each number of letters below this one; of so many letters they share none or, where it is 65,535, they share
 -- words of every length.
@@ -24,8 +25,10 @@ maxPairs = maxStates * maxStates
 abbrev pub lifetime : List ℕ → ℕ → ℕ → ℕ
 lifetime numbers s t = getD numbers (place maxStates s t) 0
 
--- The numbers are the lifetimes of all pairs of states of S, and 65,535 wherever there is no such pair.
-pub record Lifetimes (S : Semiautomaton) (numbers : List ℕ) : Type 0 where
-  pub long : length numbers ≡ maxPairs
-  pub is : (s t : ℕ) → s < S .n → t < S .n → Lifetime S s t (lifetime numbers s t)
-  pub rest : (s t : ℕ) → t < maxStates → (S .n ≤ s) ⊎ (S .n ≤ t) → s < maxStates → lifetime numbers s t ≡ endless
+-- The numbers are the lifetimes of any two different states that are a pair of the rows.
+pub record Lifetimes (S : Semiautomaton) (rows numbers : List ℕ) : Type 0 where
+  pub is : (high low : ℕ) → low < high → high < S .n → pair rows high low ≡ true → Lifetime S high low (lifetime numbers high low)
+
+-- They are written where the numbers lent are as many as there are pairs and all 65,535; where they are not as many, they are kept.
+abbrev pub Timed : Semiautomaton → List ℕ → List ℕ → List ℕ → Type 0
+Timed S rows old numbers = (old ≡ replicate maxPairs endless → Lifetimes S rows numbers) × (¬ (length old ≡ maxPairs) → numbers ≡ old)

@@ -1,8 +1,8 @@
 // The levels of live pairs: which pairs of states of successor sets share a word of 0 letters, of 1, of 2. The first round goes letter by
 // letter (`strike_first`); a later one reads the level before, and looks again only at pairs that a letter leads to a pair struck in the
-// last one (`strike_next`). The rounds are made until no rivals are left, which come in as rows, or a round strikes none (`settle`); or
-// until a round strikes none, and how long each pair lives is written down (`lifetimes::write`).
-pub mod lifetimes; // lifetimes.rt: how long each pair lives
+// last one (`strike_next`). The rounds are made until no rivals are left, which come in as rows, or a round strikes none (`settle`); where
+// numbers are lent for it, how long each pair has lived is written down on the way.
+pub mod lifetimes; // lifetimes.rt: how long struck pairs have lived, written down
 
 ghost use mathlib.Core.Bool.{not, _&&_};
 ghost use mathlib.Core.Path.{_≡_};
@@ -13,6 +13,7 @@ ghost use Rattle.semiautomata.specs.Sizes.{maxSets};
 ghost use Rattle.semiautomata.specs.Successors.{successors, Fit};
 ghost use Rattle.rows.specs.Turned.{Turned};
 ghost use Rattle.pairs.specs.Sharing.{leads, Led, Level, Settled};
+ghost use Rattle.pairs.specs.Lifetimes.{Timed};
 ghost use Rattle.pairs.specs.inner.Rounds.{Fits, ledOn, Struck, Woken, Waking, everyPair, Ends, Standing};
 
 // A letter that leads two states on to a pair of the rows, and that pair.
@@ -204,9 +205,11 @@ pub struct Levels {
     pub high: usize,
 }
 
-pub fn settle(sets: &[u64], n: usize, m: usize, rival: &[u64; 64]) -> Levels
+// The lifetimes of rivals go into as many numbers as there are pairs, which all say that a pair lives for ever; else nothing is written.
+pub fn settle(lifetimes: &mut [u16], sets: &[u64], n: usize, m: usize, rival: &[u64; 64]) -> Levels
     requires { ⌜ Fit n m (now sets) ⌝ }
-    ensures { λ r. ⌜ Settled (successors n m 0 (now (sets .entry))) (now (rival .entry)) r ⌝ }
+    ensures { λ r. ⌜ Settled (successors n m 0 (now (sets .entry))) (now (rival .entry)) r
+        × Timed (successors n m 0 (now (sets .entry))) (now (rival .entry)) (now (lifetimes .entry)) (now (lifetimes .exit)) ⌝ }
 {
     let all = bitset::mask(n as u32);
     let mut live = [all; 64];
@@ -237,6 +240,9 @@ pub fn settle(sets: &[u64], n: usize, m: usize, rival: &[u64; 64]) -> Levels
     while gone != 0 {
         rows::without(&mut live, n, &struck);
         rounds += 1;
+        if lifetimes.len() == lifetimes::PAIRS {
+            lifetimes::note(lifetimes, n, &struck, rounds as u16);
+        }
         two = rows::common(n, &live, rival);
         if !two.found {
             return Levels {

@@ -18,8 +18,11 @@ Inv-loop lifetimes₀ n struck letters s₀ lifetimes s =
 abbrev μ-loop : tie.MeasureT-loop
 μ-loop lifetimes₀ n struck letters s₀ lifetimes s = n - s
 
+abbrev start : tie.At-loop Inv-loop μ-loop → tie.Start Inv-loop μ-loop
+start c = c .before .before
+
 small : (c : tie.In-loop Inv-loop μ-loop) → c .before .loop .s < 64
-small c = omega (arith, c .before .before .pre .0)
+small c = omega (arith, start (c .before) .pre .0)
 
 pub note-spec : {M : Type 1} → statement M
 note-spec =
@@ -27,13 +30,15 @@ note-spec =
     (tie.spec
     Inv-loop
     μ-loop
-    (λ c. (omega arith, rows-first (c .args .struck .now)))
+    (λ c. (omega arith, rows-first (c .before .args .struck .now)))
     (λ c. omega (arith, small (c .before)))
     (λ c. small (c .before))
-    (λ c κs. let t = c .before .before in (small t, t .before .loop .inv .1 .long ∙ t .before .before .pre .1))
+    (λ c κs. let l = c .before .before .before in (small (c .before .before), l .loop .inv .1 .long ∙ start l .pre .1))
     (λ c. omega arith)
     (λ c. omega arith)
     (λ c.
-    let l = c .before .before .before .before in
-    (omega arith, rows-next (l .before .args .struck .now) _ (l .loop .inv .1) (c .note-row .ensures)))
-    (λ c. let e : c .before .loop .s ≡ c .before .before .args .n = omega arith in rw e at (c .before .loop .inv .1)))
+    let k = c .before .before in
+    let l = k .before .before .before .before in
+    (omega arith, rows-next (start l .args .struck .now) _ (l .loop .inv .1) (k .note-row .ensures)))
+    (λ c. c .before .loop .inv .1 .long)
+    (λ c. let e : c .before .loop .s ≡ start (c .before) .args .n = omega arith in rw e at (c .before .loop .inv .1)))

@@ -46,10 +46,11 @@ note-row-spec =
     (λ c. omega (arith, within c))
     (λ c. omega (arith, within c))
     (λ c. omega (arith, within c))
-    (λ c. within c)
+    (λ c. room c)
     (λ c. some c)
     (λ c. strike-less _ (some c))
     (λ c.
     let (l, k) = c .before .loop .inv in
     (left-next l (some c), row-next _ _ l k (some c) (below c) (room c)))
+    (λ c. c .before .loop .inv .1 .long)
     (λ c. let (l, k) = c .before .loop .inv in row-all _ _ l k (c .loop-test .left)))
