@@ -2,7 +2,7 @@
 -- these, or they do.
 -- Assumes nothing.
 use mathlib.Core.Bool.{true, false, false≢true, _&&_}
-use mathlib.Core.Logic.{_⊎_, inl, inr, ⊎-elim}
+use mathlib.Core.Logic.{inl, inr}
 use mathlib.Core.Path.{_≡_, refl, sym, _∙_}
 use mathlib.Core.List.{List}
 use Prim.Native.Nat.{ℕ, suc, _≤_, _<_}
@@ -10,9 +10,8 @@ use native.Mathlib.Nat.{lt-of-lt-of-le}
 use native.Mathlib.Omega.{arith}
 use lib.Dec.{ltb}
 use lib.ListN.{length, replicate, length-replicate, getD-replicate}
-use borrow.Author.Tests.{lt-ltb, le-ltb, ltb-true}
-use Rattle.bitset.proofs.Tests.{and-out, decided, not-so}
-use Rattle.bitset.proofs.Bits.{has-high}
+use borrow.Author.Tests.{lt-ltb}
+use Rattle.bitset.proofs.Tests.{decided, not-so}
 use Rattle.semiautomata.specs.Semiautomaton.{Semiautomaton}
 use Rattle.semiautomata.specs.Predictability.{Share}
 use Rattle.semiautomata.specs.Sizes.{maxStates, endless}
@@ -77,7 +76,8 @@ module _ {S : Semiautomaton} (few : S .n ≤ maxStates) {rows old : List ℕ} wh
 
   module _ {numbers : List ℕ} (k : Noting S rows old numbers) where
     pub noting-with : {next struck new : List ℕ} {gone j : ℕ} → length numbers ≡ maxPairs → Level S j rows → Level S (suc j) next
-        → Ends S j struck gone → suc j < endless → Noted (λ s t. ltb s (S .n) && pair struck s t) (suc j) numbers new → Noting S next old new
+        → Ends S j struck gone → suc j < endless → Noted (λ s t. ltb s (S .n) && pair struck s t) (suc j) numbers new
+        → Noting S next old new
     noting-with e L N E h n = record {
       long = n .long ∙ k .long;
       marked = λ all. marked-next few L N E h n (k .marked all);
