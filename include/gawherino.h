@@ -139,12 +139,12 @@ static inline uint32_t gawherino_refusal(uint32_t answer)
 /* Bytes of stack that a call took at most where conformance/stack.sh measured it, rounded up; the greatest of them. Where memcpy, memmove
  * or memset is bound at its first call, the dynamic linker's stack comes on top. */
 #define GAWHERINO_STACK_READ 16640u
-#define GAWHERINO_STACK_PREPARE 36352u
-#define GAWHERINO_STACK_LOOK_AHEAD 36352u
-#define GAWHERINO_STACK_COUNT 40448u
+#define GAWHERINO_STACK_PREPARE 45056u
+#define GAWHERINO_STACK_LOOK_AHEAD 45056u
+#define GAWHERINO_STACK_COUNT 49152u
 #define GAWHERINO_STACK_CHECK 16896u
 #define GAWHERINO_STACK_WRITE 16640u
-#define GAWHERINO_STACK_NEEDS 44032u
+#define GAWHERINO_STACK_NEEDS 44544u
 #define GAWHERINO_STACK_STEP 256u
 #define GAWHERINO_STACK_WALK 256u
 #define GAWHERINO_STACK_JUDGE 512u
@@ -152,7 +152,7 @@ static inline uint32_t gawherino_refusal(uint32_t answer)
 #define GAWHERINO_STACK_FEED 256u
 #define GAWHERINO_STACK_FINISH 16384u
 #define GAWHERINO_STACK_GROUP 256u
-#define GAWHERINO_MAX_STACK 44032u
+#define GAWHERINO_MAX_STACK 49152u
 
 /* FORMS
  *
