@@ -23,7 +23,7 @@ static size_t letters_len;
 static uint32_t evidence[GAWHERINO_EVIDENCE];
 static uint8_t out[GAWHERINO_MAX_WRITTEN];
 static size_t out_len;
-static uint16_t needs[GAWHERINO_MAX_STAKES * GAWHERINO_MAX_CODES + 1];
+static uint16_t needs[GAWHERINO_MAX_NEEDS];
 static size_t needs_len;
 static uint8_t word[5000];
 static size_t word_len;

@@ -638,7 +638,7 @@ fn one_set_under_several_names() {
             counted(calls, &plan, if counting.contains(&true) { Err(15) } else { Ok(0) }, &format!("from {starts:?}"));
             let said = claims.map(|claim| said_yes(calls, &plan, claim, &[0]));
             assert_eq!(said, counting, "from {starts:?} by {}", calls.name());
-            // W-205: by each name that counts the set has 65,535; else it has 65,534, and starts of up to one stake have what they have
+            // W-205: by each name that counts the set has 65,535, and by a fork that does not 65,534
             let numbers = numbers_of(calls, &plan);
             let endless = [numbers[0], numbers[1], numbers[1 + 3 * 2 + 1]].map(|number| number == NONE);
             assert_eq!(endless, counting, "from {starts:?} by {}", calls.name());
@@ -880,7 +880,7 @@ fn one_form_to_file() {
     }
 }
 
-/// Plan A with a part of each of 1 to 7 done to it, and its number.
+/// Plan A spoilt in each way that 1 to 7 name, and the number.
 fn refused_plans() -> Vec<(u32, Vec<u8>)> {
     let a = plan_a().bytes();
     let changed = |place: usize, byte: u8| {

@@ -32,7 +32,8 @@ use Rattle.semiautomata.proofs.Places.{place-fits, zeros-at}
 use Rattle.walks.proofs.Reaching.{reached-in, reached-out}
 use Rattle.pairs.specs.Sharing.{Parted, Lasting}
 use Rattle.pairs.proofs.Starts.{share-starts}
-use Rattle.lookahead.specs.inner.Rivals.{Together, Named, Matched, both, Forked, Rivalry, Endless}
+use Rattle.lookahead.specs.Rivals.{Together, Rivalry}
+use Rattle.lookahead.specs.inner.Rivals.{Named, Matched, both, Forked, Endless}
 
 -- A SET WITH ITSELF
 

@@ -8,7 +8,8 @@ ghost use Rattle.bitset.specs.Numbers.{setOf};
 ghost use Rattle.semiautomata.specs.Access.{accessible};
 ghost use Rattle.semiautomata.specs.Successors.{successors, Fit};
 ghost use Rattle.walks.specs.Walking.{ledBy};
-ghost use Rattle.lookahead.specs.inner.Rivals.{Matched, Forked, Rivalry};
+ghost use Rattle.lookahead.specs.Rivals.{Rivalry};
+ghost use Rattle.lookahead.specs.inner.Rivals.{Matched, Forked};
 
 // The set without its least state.
 fn but_least(set: u64) -> u64

@@ -9,7 +9,8 @@ ghost use lib.ListN.{length};
 ghost use Rattle.bitset.specs.Numbers.{has, setOf};
 ghost use Rattle.semiautomata.specs.Access.{accessible};
 ghost use Rattle.semiautomata.specs.Successors.{successors, Fit};
-ghost use Rattle.lookahead.specs.inner.Rivals.{Together, Named, Endless};
+ghost use Rattle.lookahead.specs.Rivals.{Together};
+ghost use Rattle.lookahead.specs.inner.Rivals.{Named, Endless};
 ghost use Rattle.lookahead.specs.Answers.{Answers};
 
 // Whether the set has both states.

@@ -18,7 +18,7 @@ use Rattle.semiautomata.specs.Successors.{place, successors, setAt, Fit}
 use Rattle.semiautomata.proofs.Places.{place-same}
 use Rattle.semiautomata.proofs.Successors.{place-lt}
 use Rattle.pairs.specs.Lifetimes.{Lifetimes}
-use Rattle.lookahead.specs.inner.Rivals.{Rivalry}
+use Rattle.lookahead.specs.Rivals.{Rivalry}
 use Rattle.needs.specs.Needs.{Says, Of, placeOf, Filled}
 use Rattle.needs.specs.inner.Entering.{Entered, ForksEntered}
 use Rattle.needs.proofs.Saying.{says-initial, says-fork}

@@ -1,6 +1,6 @@
 -- From how long two states live to what the number of a critical set says.
 -- Assumes nothing.
-use mathlib.Core.Bool.{Bool, true, false, false≢true}
+use mathlib.Core.Bool.{Bool, true, false≢true}
 use mathlib.Core.Path.{_≡_, refl, sym, _∙_}
 use mathlib.Core.Logic.{inl, inr}
 use mathlib.Core.List.{List}
@@ -22,7 +22,7 @@ use Rattle.semiautomata.proofs.Places.{place-fits}
 use Rattle.table.proofs.Fitness.{pairs-le}
 use Rattle.walks.proofs.Reaching.{reached-in, reached-out}
 use Rattle.pairs.specs.Lifetimes.{Lifetime, lifetime, Lifetimes}
-use Rattle.lookahead.specs.inner.Rivals.{Rivalry}
+use Rattle.lookahead.specs.Rivals.{Rivalry}
 use Rattle.semiautomata.specs.Sizes.{endless, unmeasured}
 use Rattle.pairs.proofs.Starts.{share-starts}
 use Rattle.needs.specs.Needs.{Measured, NoNeed, Says}

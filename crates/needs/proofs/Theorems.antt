@@ -158,6 +158,8 @@ module _ (A : Asked) (P : Proper A) where
       marks-free = (omega arith, omega arith);
       alone = alone sized written;
       no-starts = no-starts sized written;
+      largest-is = lookahead-largest W written;
+      endless-is = (some-endless W written, unpredictable-endless W written);
       largest-k = λ none o d. largest-k none o (looked passes o d);
       endless-15 = λ o d. endless-15 o (looked passes o d);
       ready-largest = λ k old′ letters d.

@@ -7,7 +7,8 @@ use mathlib.Core.Logic.{_⊎_, _↔_}
 use mathlib.Core.Path.{_≡_}
 use mathlib.Core.List.{List}
 use lib.ListN.{length, getD, take}
-use Rattle.semiautomata.specs.Predictability.{Critical, member, named, Counts}
+use Rattle.semiautomata.specs.Predictability.{Critical, member, named, Counts, Lookahead}
+use Rattle.semiautomata.specs.Predictability as predictability
 use Rattle.semiautomata.specs.Sizes.{maxSets, maxLookahead, endless, unmeasured}
 use Rattle.refusals.specs.Outcomes.{Outcome, refused, answered}
 use Rattle.plan.specs.Asked.{Asked, Passes, Proper}
@@ -53,8 +54,11 @@ pub record Theorems (A : Asked) (numbers : List ℕ) : Type 0 where
   pub alone : (T : Critical) → Of (A .means) T → Counts (A .means) T → (s : ℕ) → ((t : ℕ) → (member (A .means) T t ≡ true) ↔ (t ≡ s))
       → getD numbers (placeOf (A .means) T) 0 ≡ 0
   pub no-starts : ((s : ℕ) → A .means .initial s ≡ false) → getD numbers 0 0 ≡ unmeasured
-  -- if no entry is 65,535, the k that is answered is the largest of the entries other than 65,534, or 0 if there is no such entry; and
-  -- some entry is 65,535 exactly if 15 is answered
+  -- if no entry is 65,535, the look-ahead is the largest of the entries other than 65,534, or 0 if there is no such entry; and some entry
+  -- is 65,535 exactly if there is no look-ahead
+  pub largest-is : ¬ SomeEndless numbers → Lookahead (A .means) (largest numbers)
+  pub endless-is : SomeEndless numbers ↔ predictability.Unpredictable (A .means)
+  -- so the calls answer that k, and 15
   pub largest-k : ¬ SomeEndless numbers → (o : Outcome ℕ) → LookedAhead A o → o ≡ answered (largest numbers)
   pub endless-15 : (o : Outcome ℕ) → LookedAhead A o → SomeEndless numbers ↔ (o ≡ refused 15)
   -- preparing and the count call being lent whatever: the same of k, and with 15 the set that the evidence names has 65,535

@@ -42,7 +42,8 @@ fn longest_with(lifetimes: &[u16; PAIRS], s: usize, others: u64, before: u16) ->
     longest
 }
 
-// The longest that two different states of the set live. Each pair is looked at once; a pair that lives for ever ends the search.
+// The longest that two different states of the set live. Each pair is looked at once; behind a state that lives for ever with another
+// nothing is looked at.
 fn longest(lifetimes: &[u16; PAIRS], set: u64) -> u16
     ensures { λ r. ⌜ LongestLived (now (lifetimes .entry)) (has set) r ⌝ }
 {

@@ -25,7 +25,7 @@ maxPairs = maxStates * maxStates
 abbrev pub lifetime : List ℕ → ℕ → ℕ → ℕ
 lifetime numbers s t = getD numbers (place maxStates s t) 0
 
--- The numbers are the lifetimes of any two different states that are a pair of the rows.
+-- The numbers are the lifetimes of any two different states that are a pair of the rows, each read with the higher state first.
 pub record Lifetimes (S : Semiautomaton) (rows numbers : List ℕ) : Type 0 where
   pub is : (high low : ℕ) → low < high → high < S .n → pair rows high low ≡ true → Lifetime S high low (lifetime numbers high low)
 

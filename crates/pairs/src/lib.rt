@@ -1,7 +1,7 @@
 // The levels of live pairs: which pairs of states of successor sets share a word of 0 letters, of 1, of 2. The first round goes letter by
 // letter (`strike_first`); a later one reads the level before, and looks again only at pairs that a letter leads to a pair struck in the
 // last one (`strike_next`). The rounds are made until no rivals are left, which come in as rows, or a round strikes none (`settle`); where
-// numbers are lent for it, how long each pair has lived is written down on the way.
+// numbers are lent for it, how long each struck pair has lived is written down on the way.
 pub mod lifetimes; // lifetimes.rt: how long struck pairs have lived, written down
 
 ghost use mathlib.Core.Bool.{not, _&&_};
@@ -205,7 +205,7 @@ pub struct Levels {
     pub high: usize,
 }
 
-// The lifetimes of rivals go into as many numbers as there are pairs, which all say that a pair lives for ever; else nothing is written.
+// Where 4,096 numbers are lent, all 65,535, the lifetimes of rivals are written into them; where they are not as many, nothing is.
 pub fn settle(lifetimes: &mut [u16], sets: &[u64], n: usize, m: usize, rival: &[u64; 64]) -> Levels
     requires { ⌜ Fit n m (now sets) ⌝ }
     ensures { λ r. ⌜ Settled (successors n m 0 (now (sets .entry))) (now (rival .entry)) r

@@ -27,7 +27,7 @@ use Rattle.filing.specs.Theorems.{WrittenFor}
 use Rattle.filing.proofs.Form.{written-few}
 use Rattle.needs.specs.declared.Needs.{Needs}
 use Rattle.needs.specs.declared.Needs.the-variants as told
-use Rattle.needs.specs.Needs.{Of, placeOf, largest, NeedsOf}
+use Rattle.needs.specs.Needs.{Of, placeOf, largest, outcomeOfNeeds, NeedsOf}
 use Rattle.needs.specs.Theorems.{LookedAhead, SomeEndless}
 use Rattle.needs.specs.Theorems as of-needs
 use Rattle.needs.proofs.Theorems.{looked, needs-few, met}
@@ -60,6 +60,9 @@ written-for plan old out r (Refused x) w e h = absurd (omega arith)
 needed-number : (plan old needs : List ℕ) (a : Needs) → NeedsOf (asked plan) a old needs → Number (ofNeeds a .first)
 needed-number plan old needs (told.Entries count) d = value (omega (arith, needs-few (asked plan) (asked-proper plan) count old needs d))
 needed-number plan old needs (told.Refused r) (e, z, _) = short-number (asked plan) (asked-proper plan) _ e z
+
+needed-is : (a : Needs) {count : ℕ} → outcomeOfNeeds a ≡ answered count → ofNeeds a .first ≡ count
+needed-is a e = rw e
 
 told-of : (plan old needs : List ℕ) (r : ℕ) (a : Needs) → NeedsOf (asked plan) a old needs → r ≡ ofNeeds a .first → r < 65536
     → Passes (asked plan) × of-needs.Theorems (asked plan) (take r needs)
@@ -135,6 +138,8 @@ theorems r = record {
   writing = λ plan old out p. rw (p .passed .answered) (written-number plan old out (p .answer) (p .meets));
   needing = λ plan old needs p. rw (p .passed .answered) (needed-number plan old needs (p .answer) (p .meets));
   written = λ plan old out p. written-for plan old out r (p .answer) (p .meets) (p .passed .answered);
+  needed = λ plan old needs p w room.
+      p .passed .answered ∙ needed-is (p .answer) (met (asked plan) (asked-proper plan) .answers w (p .answer) old needs room (p .meets));
   told = λ plan old needs p h. told-of plan old needs r (p .answer) (p .meets) (p .passed .answered) h .1;
   largest-ahead = λ plan old needs p h answer l.
       let (w, t) = told-of plan old needs r (p .answer) (p .meets) (p .passed .answered) h in

@@ -10,11 +10,11 @@ use mathlib.Core.List.{List}
 use lib.ListN.{length, getD, take}
 use Rattle.semiautomata.specs.Predictability.{Critical, named}
 use Rattle.semiautomata.specs.Sizes.{endless}
-use Rattle.plan.specs.Bytes.{meaning, asked}
+use Rattle.plan.specs.Bytes.{meaning, asked, WellFormed}
 use Rattle.table.specs.Table.{setsFrom}
 use Rattle.prepare.specs.Preparing.{Draws}
 use Rattle.filing.specs.Theorems.{WrittenFor}
-use Rattle.needs.specs.Needs.{Of, placeOf, largest}
+use Rattle.needs.specs.Needs.{Of, placeOf, entries, largest}
 use Rattle.needs.specs.Theorems.{SomeEndless}
 use Rattle.needs.specs.Theorems as of-needs
 use Rattle.refusals.specs.Outcomes.{refusing}
@@ -30,7 +30,7 @@ pub data AnswersAhead (plan : List ℕ) (answer : ℕ) : Type 0 where
       → PassesCount (asked plan) answer old letters old′ evidence → AnswersAhead plan answer
   drawn : Draws (asked plan) answer → AnswersAhead plan answer
 
--- Preparing or the count call answers 15 for C with this evidence.
+-- Preparing or the count call, lent room for the numbers of evidence, answers 15 for C and leaves these.
 abbrev pub ShowsEvidence : List ℕ → List ℕ → Type 0
 ShowsEvidence plan evidence =
     ((old : List ℕ) × (table : List ℕ) × (old′ : List ℕ) × (letters : List ℕ) × (old″ : List ℕ) × (6 ≤ length old″)
@@ -49,7 +49,9 @@ pub record Theorems (r : ℕ) : Type 0 where
   pub needing : (plan old needs : List ℕ) → PassesNeeds (asked plan) r old needs → Number r
   -- What a call that was not refused wrote is what filing/specs/Theorems speaks of.
   pub written : (plan old out : List ℕ) → PassesWriting plan r old out → r < 65536 → WrittenFor plan (take r out)
-  -- .. what needs/specs/Theorems speaks of.
+  -- .. what needs/specs/Theorems speaks of; and where none of 1 to 7 applies and enough numbers are lent, it is not refused.
+  pub needed : (plan old needs : List ℕ) → PassesNeeds (asked plan) r old needs → WellFormed plan → entries (meaning plan) ≤ length old
+      → r ≡ entries (meaning plan)
   pub told : (plan old needs : List ℕ) → PassesNeeds (asked plan) r old needs → r < 65536 → of-needs.Theorems (asked plan) (take r needs)
   -- Where no entry is 65,535, k is answered, the largest of the entries other than 65,534, or 0 if there is no such entry; some entry is
   -- 65,535 exactly if 15 is answered; and the set that the evidence names has it.

@@ -1,4 +1,4 @@
--- Rivals: two different states of one critical set that counts, as rows and by a name. What the inner functions promise each other.
+-- Rivals put into rows, and a critical set named that has two. What the inner functions promise each other.
 -- Assumes nothing.
 use Prim.Native.Nat.{ℕ, _<_}
 use mathlib.Core.Bool.{Bool, true, _&&_, _||_}
@@ -9,17 +9,11 @@ use lib.ListN.{length}
 use Rattle.bitset.specs.Sets.{any}
 use Rattle.bitset.specs.Numbers.{has}
 use Rattle.semiautomata.specs.Semiautomaton.{Semiautomaton}
-use Rattle.semiautomata.specs.Predictability.{Critical, member, named, Counts}
+use Rattle.semiautomata.specs.Predictability.{named}
 use Rattle.semiautomata.specs.Successors.{setAt, successors}
 use Rattle.rows.specs.Rows.{pair}
 use Rattle.pairs.specs.Sharing.{Lasting}
-
--- some critical set that counts has both s and t
-pub record Together (S : Semiautomaton) (s t : ℕ) : Type 0 where
-  pub set : Critical
-  pub counts : Counts S set
-  pub left : member S set s ≡ true
-  pub right : member S set t ≡ true
+use Rattle.lookahead.specs.Rivals.{Together}
 
 -- two numbers name such a set
 pub record Named (S : Semiautomaton) (q a s t : ℕ) : Type 0 where
@@ -39,11 +33,6 @@ both m sets q s t a = has (setAt m sets q a) s && has (setAt m sets q a) t
 pub record Forked (m : ℕ) (sets : List ℕ) (q i : ℕ) (old new : List ℕ) : Type 0 where
   pub long : length new ≡ length old
   pub is : (s t : ℕ) → ¬ (s ≡ t) → pair new s t ≡ (pair old s t || any i (both m sets q s t))
-
--- two different states are a pair of the rows exactly if they are together in some critical set that counts
-pub record Rivalry (S : Semiautomaton) (rows : List ℕ) : Type 0 where
-  pub from : (s t : ℕ) → ¬ (s ≡ t) → pair rows s t ≡ true → Together S s t
-  pub into : (s t : ℕ) → ¬ (s ≡ t) → Together S s t → pair rows s t ≡ true
 
 -- low and high are together in some critical set that counts and share words of every length, and so do exactly the pairs of the rows
 pub record Endless (n m starts : ℕ) (sets rows : List ℕ) (low high : ℕ) : Type 0 where
