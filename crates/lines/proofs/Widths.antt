@@ -12,7 +12,7 @@ use Rattle.refusals.specs.Groups.{groupOf}
 use Rattle.slices.specs.Appending.{each}
 use Rattle.lines.specs.Lines.{stakes, codes, starts, lines, lookAhead, atWord, stake, openWord, space, refusedWord, groupWord, field}
 use Rattle.lines.specs.Lines.{countsLine, lookaheadLine, refusedLine, resolutionLine, listed, openLine}
-use Rattle.lines.proofs.Digits.{decimal-length}
+use Rattle.decimals.proofs.Digits.{decimal-length}
 
 field-width : (word : List ℕ) (c x : ℕ) → x < 10 ^ suc c → length (field word x) ≤ length word + suc c
 unfolding field

@@ -1,24 +1,14 @@
 -- The report's lines as bytes (document 01, The report). A line ends in a line feed.
 -- Assumes nothing.
-use Prim.Native.Nat.{ℕ, zero, suc, _+_, _/_, _%_}
-use mathlib.Core.Bool.{Bool, cond}
+use Prim.Native.Nat.{ℕ}
+use mathlib.Core.Bool.{Bool}
 use mathlib.Core.List.{List, [], _∷_, _++_}
-use lib.Dec.{ltb}
 use Rattle.slices.specs.Appending.{passing}
+use Rattle.decimals.specs.Decimals.{decimal}
 use Rattle.bitset.specs.Numbers.{has}
 use Rattle.refusals.specs.declared.Group.{Group}
 use Rattle.refusals.specs.declared.Group.the-variants.{Author, Caller, Logger, Nobody}
 use Rattle.refusals.specs.Groups.{groupOf}
-
--- The decimal digits of x: those of x / 10, unless x is below 10, and then the last digit. The count c only bounds how many stand in front
--- of the last.
-unfoldable pub digits : ℕ → ℕ → List ℕ
-digits zero x = (48 + x % 10) ∷ []
-digits (suc c) x = cond (ltb x 10) [] (digits c (x / 10)) ++ ((48 + x % 10) ∷ [])
-
--- A number as it is printed: it has no more digits in front of its last than it counts, so that x itself is bound enough.
-unfoldable pub decimal : ℕ → List ℕ
-decimal x = digits x x
 
 -- The words, with the spaces that stand beside them.
 -- `stakes `, ` codes `, ` starts `, ` lines `

@@ -3,7 +3,8 @@ ghost use mathlib.Core.Bool.{cond};
 ghost use mathlib.Core.List.{[]};
 ghost use Rattle.bitset.specs.Numbers.{has};
 ghost use Rattle.slices.specs.Appending.{Room, Appended};
-ghost use Rattle.lines.specs.Lines.{decimal, field as Lines·field, space, groupWord, countsLine, lookaheadLine, refusedLine};
+ghost use Rattle.decimals.specs.Decimals.{decimal};
+ghost use Rattle.lines.specs.Lines.{field as Lines·field, space, groupWord, countsLine, lookaheadLine, refusedLine};
 ghost use Rattle.lines.specs.Lines.{resolutionLine, listed, openLine};
 use refusals::Group;
 
@@ -11,9 +12,9 @@ fn number(out: &mut [u8], at: usize, x: u64) -> usize
     requires { ⌜ Room (now out) at (decimal x) ⌝ }
     ensures { λ r. ⌜ Appended (now (out .entry)) at (decimal x) r (now (out .exit)) ⌝ }
 {
-    let mut digits = [0u8; 20];
-    let count = io::decimal(x, &mut digits);
-    slices::append(out, at, &digits[..count])
+    let mut columns = [b' '; 20];
+    let first = decimals::right(&mut columns, x);
+    slices::append(out, at, &columns[first..])
 }
 
 // A word and its number.

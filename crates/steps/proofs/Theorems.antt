@@ -14,7 +14,8 @@ use Rattle.streaming.specs.Streaming.{unresolved}
 use Rattle.semiautomata.proofs.Shares.{lookahead-unique, lookahead-predicts}
 use Rattle.samples.proofs.Plans.{samples-hold}
 use Rattle.slices.specs.Appending.{each}
-use Rattle.lines.specs.Lines.{digits, decimal, field, countsLine, lookaheadLine, refusedLine, resolutionLine, openLine}
+use Rattle.decimals.specs.Decimals.{digits, decimal}
+use Rattle.lines.specs.Lines.{field, countsLine, lookaheadLine, refusedLine, resolutionLine, openLine}
 use Rattle.steps.specs.declared.Stage.the-variants.{Plan}
 use Rattle.text.specs.Report.{noPlan, openLines, openText, walkText, plainText, AfterLookahead, no-start, walked}
 use Rattle.text.specs.Report.{AfterCounts, never, predicts, Reports, no-plan, ill-formed, well-formed}

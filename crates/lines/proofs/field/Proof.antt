@@ -1,6 +1,7 @@
 -- `field` meets its contract.
 -- Assumes nothing.
-use Rattle.lines.specs.Lines.{decimal, field}
+use Rattle.decimals.specs.Decimals.{decimal}
+use Rattle.lines.specs.Lines.{field}
 use Rattle.slices.proofs.Appending.{room-left, room-on, appended-on}
 use borrow.Author.Needs.{needs}
 use Rattle.lines.proofs.field.Statement.{statement}

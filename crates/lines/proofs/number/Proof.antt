@@ -1,31 +1,40 @@
 -- `number` meets its contract.
 -- Assumes nothing.
-use mathlib.Core.Path.{_≡_, _∙_}
-use lib.ListN.{take}
-use Rattle.lines.specs.Lines.{decimal}
-use Rattle.lines.proofs.Digits.{written-digits}
+use Prim.Native.Nat.{_-_}
+use mathlib.Core.Path.{_≡_}
+use native.Mathlib.Omega.{arith}
+use lib.ListN.{take, drop}
+use Rattle.decimals.specs.Decimals.{decimal}
+use Rattle.decimals.proofs.Digits.{decimal-length}
+use Rattle.decimals.proofs.Columns.{right-shown}
 use borrow.Author.Needs.{needs}
 use Rattle.lines.proofs.number.Statement.{statement}
 use Rattle.lines.proofs.number.Tie as tie
 
-written : (c : tie.After-decimal) → take (c .decimal .result) (c .decimal .last .1 .0) ≡ decimal (c .before .before .before .args .x)
-written c = c .decimal .ensures .1 .1 ∙ written-digits _ _ (c .decimal .ensures .1 .0)
+right-requires : tie.Need-right-requires
+right-requires c κs = omega (arith, decimal-length 19 (c .before .before .args .x) (omega arith))
+
+-- what is lent on is the number
+shown : (c : tie.After-right) → take (20 - c .right .result) (drop (c .right .result) (c .right .last .0)) ≡ decimal (c .before .before .before .args .x)
+shown c = right-shown (c .right .ensures) (20 - c .right .result) (omega arith)
 
 append-requires : tie.Need-append-requires
 append-requires c κs =
-    let start = c .before .before .before .before .before in
-    rw (written (c .before .before)) (start .pre)
+    let r = c .before .before .before .before in
+    rw (shown r) (r .before .before .before .pre)
 
 returns : tie.Need-returns
 returns c =
-    let back-5 = c .before .before .before .before .before in
-    rw (written back-5) at (c .before .before .append .ensures)
+    let r = c .before .before .before .before .before .before .before in
+    rw (shown r) at (c .before .before .append .ensures)
 
 pub number-spec : {M : Type 1} → statement M
 number-spec =
     tie.close
     (tie.spec
-    (λ c κs. search needs)
+    (λ c. search needs)
+    right-requires
+    (λ c. search needs)
     (λ c. search needs)
     (λ c. search needs)
     append-requires
