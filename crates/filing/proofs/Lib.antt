@@ -1,4 +1,4 @@
-pub mod Each
+pub mod Joined
 pub mod Listing
 pub mod Counting
 pub mod Parsing
