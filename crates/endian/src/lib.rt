@@ -1,7 +1,7 @@
 // Little-endian numbers in bytes, as plans and records have them: read at a place, and written at a place of a buffer that keeps its rest.
 ghost use mathlib.Core.Path.{_≡_};
 ghost use Prim.Native.Nat.{_+_, _≤_, _<_};
-ghost use lib.ListN.{length};
+ghost use lib.ListN.{length, getD};
 ghost use Rattle.endian.specs.Numbers.{numberAt, bytesOf};
 ghost use Rattle.slices.specs.Copying.{pasted};
 
@@ -9,6 +9,17 @@ fn wide(x: u8) -> u16
     ensures { λ r. ⌜ (r ≡ x) × (r < 256) ⌝ }
 {
     x as u16
+}
+
+// The byte at a place; 0 past the end.
+pub fn byte_at(bytes: &[u8], i: usize) -> usize
+    ensures { λ r. ⌜ (r ≡ getD (now (bytes .entry)) i 0) × (r < 256) ⌝ }
+{
+    if i < bytes.len() {
+        bytes[i] as usize
+    } else {
+        0
+    }
 }
 
 // The number of two bytes.

@@ -14,12 +14,13 @@ use Rattle.bitset.proofs.Tests.{decided, or-right}
 use Rattle.steps.specs.declared.Stage.{Stage}
 use Rattle.steps.specs.declared.Stage.the-variants.{Plan, Letters, Over}
 use Rattle.slices.specs.Appending.{Appended}
-use Rattle.text.specs.Report.{totalOf, inputLetters, noPlan, walkText, Reports}
+use Rattle.inputs.specs.Inputs.{totalOf, noPlan, wanted}
+use Rattle.text.specs.Report.{inputLetters, walkText, Reports}
 use Rattle.text.specs.Calls.{walkOn, LeavesOf, unread, read, Told}
-use Rattle.steps.specs.Steps.{readFrom, readUpto, wanted, Runs, over, on}
+use Rattle.steps.specs.Steps.{readFrom, readUpto, Runs, over, on}
 use Rattle.steps.specs.Steps.{Steps, reads-on, begins, begins-last, feeds, feeds-last, finishes, stays}
 use Rattle.slices.proofs.Appending.{appended-on}
-use Rattle.text.proofs.Beginning.{whole, total-on}
+use Rattle.inputs.proofs.Inputs.{whole, wanted-grows, told-wanted}
 
 -- what a call wrote is what it answered the length of
 written : {old text : List ℕ} {r : ℕ} {out : List ℕ} → Appended old 0 text r out → take r out ≡ text
@@ -30,15 +31,6 @@ empty [] h = refl
 empty (x ∷ l) h = absurd (omega arith)
 
 -- THE PLAN
-
--- as more of an input is there, it wants no less for its plan
-byte-grows : (xs ys : List ℕ) (i : ℕ) → getD xs i 0 ≤ getD (xs ++ ys) i 0
-byte-grows [] ys i = omega arith
-byte-grows (x ∷ xs) ys zero = omega arith
-byte-grows (x ∷ xs) ys (suc i) = byte-grows xs ys i
-
-wanted-grows : (seen piece : List ℕ) → wanted seen ≤ wanted (seen ++ piece)
-wanted-grows seen piece = omega (arith, byte-grows seen piece 14, byte-grows seen piece 15)
 
 -- no more is read than that, so no letter is among it
 no-letters : (input : List ℕ) → noPlan input ≡ false → length input ≤ wanted input → inputLetters input ≡ []
@@ -51,14 +43,6 @@ is-plan (read e _ _) = e
 -- what is there tells whether the input has a plan: all of it, or as much as it wants
 told-all : (input rest : List ℕ) → length rest ≡ 0 → Told input rest
 told-all input rest z none = rw (empty rest z, append-nil) none
-
-told-wanted : (input rest : List ℕ) → wanted input ≤ length input → Told input rest
-unfolding noPlan
-told-wanted input rest h none = elim (decided (ltb (totalOf input) 16)) [
-  | inl e ↦ rw (total-on input rest (omega arith), e) (or-right (ltb (length (input ++ rest)) 16) true refl)
-  | inr e ↦ let none′ = rw (le-ltb (length input) 16 (omega arith), e, le-ltb (length input) (totalOf input) (omega arith)) at none in
-      absurd (true≢false (sym none′))
-]
 
 -- A RUN
 

@@ -28,7 +28,7 @@ use Rattle.steps.specs.declared.Stage.the-variants.{Plan, Letters}
 use Rattle.slices.specs.Appending.{Appended}
 use Rattle.lines.specs.Lines.{countsLine, lookaheadLine, refusedLine, resolutionLine}
 use Rattle.slices.specs.Copying.{pasted}
-use Rattle.text.specs.Report.{noPlan}
+use Rattle.inputs.specs.Inputs.{noPlan}
 use Rattle.text.specs.Calls.{openOn, Begins, FeedsPart, unpredictable, opens}
 use Rattle.steps.specs.Steps.{Runs, over, on, reads-on, begins, begins-last, feeds, finishes}
 use Rattle.steps.specs.Theorems.{zeroTable, zeroRecord, sampleInput, refusedSample}

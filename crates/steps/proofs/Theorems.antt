@@ -17,7 +17,8 @@ use Rattle.slices.specs.Appending.{each}
 use Rattle.decimals.specs.Decimals.{digits, decimal}
 use Rattle.lines.specs.Lines.{field, countsLine, lookaheadLine, refusedLine, resolutionLine, openLine}
 use Rattle.steps.specs.declared.Stage.the-variants.{Plan}
-use Rattle.text.specs.Report.{noPlan, openLines, openText, walkText, plainText, AfterLookahead, no-start, walked}
+use Rattle.inputs.specs.Inputs.{noPlan}
+use Rattle.text.specs.Report.{openLines, openText, walkText, plainText, AfterLookahead, no-start, walked}
 use Rattle.text.specs.Report.{AfterCounts, never, predicts, Reports, no-plan, ill-formed, well-formed}
 use Rattle.steps.specs.Steps.{Runs}
 use Rattle.steps.specs.Theorems.{sampleInput, sampleText, refusedSample, refusedText, zeroTable, zeroRecord, Theorems}

@@ -1,6 +1,6 @@
 -- Where a report stands, and its steps: which call comes next. The bytes that are read go into one buffer, and a step is lent its front.
 -- Assumes nothing.
-use Prim.Native.Nat.{ℕ, max, _≤_, _<_}
+use Prim.Native.Nat.{ℕ, _≤_, _<_}
 use mathlib.Core.Logic.{_⊎_}
 use mathlib.Core.Path.{_≡_}
 use mathlib.Core.List.{List, [], _++_}
@@ -9,7 +9,7 @@ use Rattle.text.specs.declared.Printed.the-variants.{Going, Ended}
 use Rattle.steps.specs.declared.Stage.{Stage}
 use Rattle.steps.specs.declared.Stage.the-variants.{Plan, Letters, Over}
 use Rattle.slices.specs.Appending.{Appended}
-use Rattle.text.specs.Report.{totalOf}
+use Rattle.inputs.specs.Inputs.{wanted}
 use Rattle.text.specs.Calls.{openOn, FeedsPart, Begins}
 
 -- What is read next: into the buffer from this place on, up to that one. Nothing is read once the report is over.
@@ -27,10 +27,6 @@ readUpto Over = 0
 pub record Readable (stage : Stage) : Type 0 where
   pub order : readFrom stage ≤ readUpto stage
   pub fits : readUpto stage ≤ 65535
-
--- How many bytes of an input are wanted for its plan, as far as these say: 16 at least, and then its total.
-abbrev pub wanted : List ℕ → ℕ
-wanted input = max 16 (totalOf input)
 
 -- One step: of a stage and the front of the buffer, how many bytes are to be written, the next stage, and the memory that is left. It
 -- begins at the first stage or at one that a step answered, so that no more is read of a plan than it has bytes (`Runs`).

@@ -5,7 +5,7 @@ ghost use lib.ListN.{length};
 ghost use Rattle.slices.specs.Appending.{Appended};
 ghost use Rattle.text.specs.Calls.{mostSets, openWidth, openOn};
 ghost use Rattle.steps.specs.declared.Stage.the-variants.{Plan, Letters};
-ghost use Rattle.steps.specs.Steps.{readFrom, readUpto, wanted as Steps·wanted, Readable, Steps};
+ghost use Rattle.steps.specs.Steps.{readFrom, readUpto, Readable, Steps};
 use text::Printed;
 
 // Where a report stands: its plan is read up to a place, its letters are, or it is over.
@@ -48,13 +48,6 @@ pub fn upto(stage: Stage) -> usize
     }
 }
 
-fn wanted(input: &[u8]) -> usize
-    ensures { λ r. ⌜ (r ≡ Steps·wanted (now (input .entry))) × (r < 65536) ⌝ }
-{
-    let end = text::total(input);
-    if end < 16 { 16 } else { end }
-}
-
 // The open lines, from a place of the buffer on: how many bytes of it are written then.
 fn finish_at(table: &[u64], rec: &[u8], out: &mut [u8], at: usize) -> usize
     requires { ⌜ at + openWidth * mostSets ≤ length (now out) ⌝ }
@@ -80,7 +73,7 @@ fn step_plan(
     ensures { λ r. ⌜ Steps (now (input .entry)) (now (table .entry)) (now (rec .entry)) (now (out .entry))
         (Plan from upto) (r .count) (r .stage) (now (table .exit)) (now (rec .exit)) (now (out .exit)) × Readable (r .stage) ⌝ }
 {
-    let end = wanted(input);
+    let end = inputs::wanted(input);
     if (from < input.len()) & (input.len() < end) {
         let stage = Stage::Plan {
             from: input.len(),

@@ -20,11 +20,13 @@ use Rattle.table.proofs.Form.{Reads}
 use Rattle.prepare.specs.Preparing.{prepareRefusal}
 use Rattle.plan.proofs.Readings.{reading-refused, reading-well}
 use Rattle.prepare.proofs.Refusals.{square, prepare-clear}
+use Rattle.inputs.specs.Inputs.{totalOf, planOf, noPlan}
+use Rattle.inputs.proofs.Inputs.{whole, same-total, still-plan, same-plan}
 use Rattle.text.specs.declared.Printed.{Printed}
 use Rattle.text.specs.declared.Printed.the-variants.{Going, Ended, Short}
 use Rattle.slices.specs.Appending.{Appended}
 use Rattle.lines.specs.Lines.{countsLine, lookaheadLine, refusedLine}
-use Rattle.text.specs.Report.{totalOf, planOf, inputLetters, noPlan, countsOf, AfterLookahead, AfterCounts, never, predicts, Reports}
+use Rattle.text.specs.Report.{inputLetters, countsOf, AfterLookahead, AfterCounts, never, predicts, Reports}
 use Rattle.text.specs.Report.{no-plan, ill-formed, well-formed}
 use Rattle.text.specs.Calls.{tableSize, Laid, Lays, over, Leaves, read, ReportText, Roomy, Begins}
 use Rattle.bitset.proofs.Tests.{or-none}
@@ -53,13 +55,6 @@ pub lays-last : (says : List ℕ → List ℕ → Type 0) {old : List ℕ} {at r
     → ((letters : List ℕ) → says letters a) → Laid says old at r out (λ letters. [])
 lays-last says {a = a} p is = record { text = a; put = p; follows = λ letters. rw (append-nil a) (is letters) }
 
--- none of three numbers is too small
-pub three-long : (a b c d e f : ℕ) → (ltb a b || (ltb c d || ltb e f)) ≡ false → (b ≤ a) × (d ≤ c) × (f ≤ e)
-three-long a b c d e f h =
-    let (x, h) = or-none (ltb a b) (ltb c d || ltb e f) h in
-    let (y, z) = or-none (ltb c d) (ltb e f) h in
-    (ltb-false a b x, ltb-false c d y, ltb-false e f z)
-
 -- LINE 2
 
 -- the buffers are long enough for every plan
@@ -87,48 +82,19 @@ module _ {S : Semiautomaton} {old : List ℕ} {at : ℕ} where
 
 -- THE INPUT
 
--- the plan is whole
-pub record Whole (input : List ℕ) : Type 0 where
-  pub long : 16 ≤ length input
-  pub total : 16 ≤ totalOf input
-  pub there : totalOf input ≤ length input
-
-pub whole : (input : List ℕ) → noPlan input ≡ false → Whole input
-unfolding noPlan
-whole input e = let (a, b, c) = three-long _ _ _ _ _ _ e in record { long = a; total = b; there = c }
-
-pub total-on : (input rest : List ℕ) → 16 ≤ length input → totalOf (input ++ rest) ≡ totalOf input
-total-on input rest h = rw (List·getD-append input rest 0 14 (omega arith), List·getD-append input rest 0 15 (omega arith))
-
 module _ (input : List ℕ) (e : noPlan input ≡ false) (rest : List ℕ) where
-  same-total : totalOf (input ++ rest) ≡ totalOf input
-  same-total = total-on input rest (whole input e .long)
-
-  still-plan : noPlan (input ++ rest) ≡ false
-  unfolding noPlan
-  still-plan =
-      let w = whole input e in
-      rw (
-        same-total,
-        length-append input rest,
-        le-ltb (length input + length rest) 16 (omega (arith, w .long)),
-        le-ltb (totalOf input) 16
-            (w .total),
-        le-ltb (length input + length rest) (totalOf input) (omega (arith, w .there)),
-      )
-
-  same-plan : planOf (input ++ rest) ≡ planOf input
-  same-plan = rw same-total (take-append-le (totalOf input) input rest (whole input e .there))
-
   same-letters : inputLetters (input ++ rest) ≡ inputLetters input ++ rest
-  same-letters = rw same-total (drop-append-le (totalOf input) input rest (whole input e .there))
+  same-letters = rw (same-total input e rest) (drop-append-le (totalOf input) input rest (whole input e .there))
 
   report-well : WellFormed (planOf input) → (text : List ℕ) → AfterCounts (meaning (planOf input)) (inputLetters input ++ rest) text
       → Reports (input ++ rest) (countsOf (headerOf (planOf input)) ++ text)
-  report-well w text a = rw (← same-plan) (well-formed still-plan (rw same-plan w) {text = text} (rw (same-plan, same-letters) a))
+  report-well w text a =
+      let same = same-plan input e rest in
+      rw (← same) (well-formed (still-plan input e rest) (rw same w) {text = text} (rw (same, same-letters) a))
 
   report-ill : ¬ WellFormed (planOf input) → Reports (input ++ rest) (refusedLine (refusal (planOf input)))
-  report-ill n = rw (← same-plan) (ill-formed still-plan (λ w. n (rw same-plan at w)))
+  report-ill n =
+      let same = same-plan input e rest in rw (← same) (ill-formed (still-plan input e rest) (λ w. n (rw same at w)))
 
 -- what is read of the plan
 module _ (plan : List ℕ) {n m s l : ℕ} (d : outcomeOfReading (Counts n m s l) ≡ reading plan) where

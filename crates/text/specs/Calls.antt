@@ -15,11 +15,12 @@ use Rattle.table.specs.Table.{setsFrom, contents, laidOut}
 use Rattle.records.specs.Bytes.{heldFrom, decode}
 use Rattle.predictor.specs.Calls.{openedOn, fedOn, endRefusal, ended}
 use Rattle.deciding.specs.Replies.{isRefusal}
+use Rattle.inputs.specs.Inputs.{planOf, noPlan}
 use Rattle.text.specs.declared.Printed.{Printed}
 use Rattle.text.specs.declared.Printed.the-variants.{Going, Ended, Short}
 use Rattle.slices.specs.Appending.{Appended}
 use Rattle.lines.specs.Lines.{refusedLine}
-use Rattle.text.specs.Report.{planOf, inputLetters, noPlan, openText, walkText, Reports}
+use Rattle.text.specs.Report.{inputLetters, openText, walkText, Reports}
 
 -- What is lent: sets for an ending, numbers for a table, bytes for a record; bytes that the first lines, the line of a letter and an open
 -- line take at the most.

@@ -1,11 +1,10 @@
 -- The report of document 01, as one definition: what the input is, and what is printed of it.
 -- Assumes nothing.
 use Prim.Native.Nat.{ℕ, suc, _-_}
-use mathlib.Core.Bool.{Bool, true, false, cond, _||_}
+use mathlib.Core.Bool.{true, false, cond}
 use mathlib.Core.Path.{_≡_}
 use mathlib.Core.List.{List, [], _∷_, _++_, map}
-use lib.Dec.{ltb}
-use lib.ListN.{length, take, drop}
+use lib.ListN.{length, drop}
 use Rattle.bitset.specs.Numbers.{setOf}
 use Rattle.semiautomata.specs.Semiautomaton.{Semiautomaton}
 use Rattle.semiautomata.specs.Predictability.{Lookahead, Unpredictable}
@@ -14,22 +13,13 @@ use Rattle.streaming.specs.PlainWalk.{plainReply, plainFeed}
 use Rattle.streaming.specs.Streaming.{unresolved}
 use Rattle.plan.specs.declared.Header.{Header}
 use Rattle.plan.specs.Bytes.{headerOf, meaning, refusal, WellFormed}
+use Rattle.inputs.specs.Inputs.{totalOf, planOf, noPlan}
 use Rattle.deciding.specs.Replies.{isRefusal}
 use Rattle.lines.specs.Lines.{countsLine, lookaheadLine, refusedLine, resolutionLine, openLine}
 
--- THE INPUT: plan bytes, then one byte a letter. The plan is as long as its total says.
-abbrev pub totalOf : List ℕ → ℕ
-totalOf input = headerOf input .total
-
-abbrev pub planOf : List ℕ → List ℕ
-planOf input = take (totalOf input) input
-
+-- THE INPUT: plan bytes (inputs/specs/Inputs), then one byte a letter.
 abbrev pub inputLetters : List ℕ → List ℕ
 inputLetters input = drop (totalOf input) input
-
--- Refusal 1 of the report: fewer than 16 bytes, a total below 16, or fewer bytes than the total.
-unfoldable pub noPlan : List ℕ → Bool
-noPlan input = ltb (length input) 16 || (ltb (totalOf input) 16 || ltb (length input) (totalOf input))
 
 -- A WALK
 

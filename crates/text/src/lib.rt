@@ -3,7 +3,7 @@
 ghost use mathlib.Core.Path.{_≡_};
 ghost use mathlib.Core.Bool.{false};
 ghost use Prim.Native.Nat.{_+_, _-_, _*_, _^_, _≤_, _<_};
-ghost use lib.ListN.{length, getD};
+ghost use lib.ListN.{length};
 ghost use Rattle.semiautomata.specs.Predictability.{Lookahead};
 ghost use Rattle.plan.specs.Bytes.{meaning, WellFormed};
 ghost use Rattle.table.specs.Table.{lookaheadOf, tableMeaning, unfit};
@@ -11,7 +11,7 @@ ghost use Rattle.endian.specs.Numbers.{numberAt};
 ghost use Rattle.deciding.specs.Replies.{said, isRefusal};
 ghost use Rattle.predictor.specs.Calls.{openedOn};
 ghost use Rattle.slices.specs.Appending.{Appended};
-ghost use Rattle.text.specs.Report.{totalOf, noPlan, replyText, openLines, AfterLookahead, AfterCounts};
+ghost use Rattle.text.specs.Report.{replyText, openLines, AfterLookahead, AfterCounts};
 ghost use Rattle.text.specs.Calls.{mostSets, tableSize, recordSize, letterWidth, openWidth, over, printedOf};
 ghost use Rattle.text.specs.Calls.{FeedsPart, Finishes, Lays, Leaves, Begins};
 use deciding::Answer;
@@ -41,32 +41,6 @@ fn reply(out: &mut [u8], at: usize, answer: Answer) -> usize
 }
 
 // THE FIRST LINES
-
-// The byte at a place; 0 past the end.
-fn byte_at(bytes: &[u8], i: usize) -> usize
-    ensures { λ r. ⌜ (r ≡ getD (now (bytes .entry)) i 0) × (r < 256) ⌝ }
-{
-    if i < bytes.len() {
-        bytes[i] as usize
-    } else {
-        0
-    }
-}
-
-// How many bytes of an input are its plan, as these say themselves.
-pub fn total(input: &[u8]) -> usize
-    ensures { λ r. ⌜ (r ≡ totalOf (now (input .entry))) × (r < 65536) ⌝ }
-{
-    byte_at(input, 14) + 256 * byte_at(input, 15)
-}
-
-// Refusal 1.
-fn no_plan(input: &[u8]) -> bool
-    ensures { λ r. ⌜ r ≡ noPlan (now (input .entry)) ⌝ }
-{
-    let end = total(input);
-    (input.len() < 16) | ((end < 16) | (input.len() < end))
-}
 
 // What is printed of opening a record on a table, and whether the walk goes on.
 fn opened(table: &[u64], rec: &mut [u8], out: &mut [u8], at: usize) -> Printed
@@ -115,10 +89,10 @@ pub fn begin(input: &[u8], table: &mut [u64], rec: &mut [u8], out: &mut [u8]) ->
     if (table.len() < table::MAX_TABLE) | ((rec.len() < 2024) | (out.len() < 106)) {
         return Printed::Short;
     }
-    if no_plan(input) {
+    if inputs::no_plan(input) {
         return Printed::Ended(lines::refused(out, 0, 1));
     }
-    let end = total(input);
+    let end = inputs::total(input);
     let plan = &input[..end];
     let reading = plan::read(plan);
     match reading {
@@ -157,10 +131,10 @@ pub fn feed(table: &[u64], rec: &mut [u8], letters: &[u8], out: &mut [u8]) -> Pr
 fn fed_of(rec: &[u8]) -> usize
     ensures { λ r. ⌜ (r ≡ numberAt (now (rec .entry)) 0 4) × (r < 2 ^ 32) ⌝ }
 {
-    let a = byte_at(rec, 0);
-    let b = byte_at(rec, 1);
-    let c = byte_at(rec, 2);
-    let d = byte_at(rec, 3);
+    let a = endian::byte_at(rec, 0);
+    let b = endian::byte_at(rec, 1);
+    let c = endian::byte_at(rec, 2);
+    let d = endian::byte_at(rec, 3);
     a + 256 * (b + 256 * (c + 256 * d))
 }
 

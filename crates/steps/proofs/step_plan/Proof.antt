@@ -5,7 +5,8 @@ use mathlib.Core.Logic.{_⊎_}
 use native.Mathlib.Omega.{arith}
 use lib.ListN.{length}
 use Rattle.text.specs.Calls.{tableSize, recordSize, beginWidth}
-use Rattle.steps.specs.Steps.{wanted, reads-on, begins, begins-last}
+use Rattle.inputs.specs.Inputs.{wanted}
+use Rattle.steps.specs.Steps.{reads-on, begins, begins-last}
 use Rattle.steps.proofs.Stepping.{both-less, not-both, not-short, readable-letters, readable-over}
 use borrow.Author.Needs.{needs}
 use Rattle.steps.proofs.step_plan.Statement.{statement}

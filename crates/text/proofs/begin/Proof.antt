@@ -10,11 +10,12 @@ use lib.Seq.{length-take-le}
 use Rattle.plan.specs.declared.Reading.the-variants.{Counts, Refused}
 use Rattle.plan.specs.Bytes.{outcomeOfReading, reading}
 use Rattle.lines.specs.Lines.{countsLine}
-use Rattle.text.specs.Report.{noPlan, planOf}
+use Rattle.inputs.specs.Inputs.{noPlan, planOf}
 use Rattle.text.specs.Calls.{tableSize, recordSize, beginWidth, unread}
 use Rattle.slices.proofs.Appending.{appended-long}
 use Rattle.lines.proofs.Widths.{counts-width, refused-width}
-use Rattle.text.proofs.Beginning.{three-long, whole, read-well, begun-no-plan, begun-ill, begun-well}
+use Rattle.inputs.proofs.Inputs.{three-long, whole}
+use Rattle.text.proofs.Beginning.{read-well, begun-no-plan, begun-ill, begun-well}
 use borrow.Author.Needs.{needs}
 use Rattle.text.proofs.begin.Statement.{statement}
 use Rattle.text.proofs.begin.Tie as tie

@@ -4,8 +4,8 @@ use mathlib.Core.Path.{refl, sym}
 use native.Mathlib.Omega.{arith}
 use lib.ListN.{List·getD-eq-default}
 use borrow.Author.Needs.{needs}
-use Rattle.text.proofs.byte_at.Statement.{statement}
-use Rattle.text.proofs.byte_at.Tie as tie
+use Rattle.endian.proofs.byte_at.Statement.{statement}
+use Rattle.endian.proofs.byte_at.Tie as tie
 
 cast-result : tie.Need-cast-result
 cast-result c = omega (arith, c .shared-slice-known .given (c .before .before .args .i))

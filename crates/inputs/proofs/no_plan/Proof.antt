@@ -1,9 +1,9 @@
 -- `no_plan` meets its contract.
 -- Assumes nothing.
-use Rattle.text.specs.Report.{noPlan}
+use Rattle.inputs.specs.Inputs.{noPlan}
 use borrow.Author.Needs.{needs}
-use Rattle.text.proofs.no_plan.Statement.{statement}
-use Rattle.text.proofs.no_plan.Tie as tie
+use Rattle.inputs.proofs.no_plan.Statement.{statement}
+use Rattle.inputs.proofs.no_plan.Tie as tie
 
 returns : tie.Need-returns
 unfolding noPlan
