@@ -57,14 +57,14 @@ tells-unique {S} xs ys a b = ext-getD 0 xs ys (a .long ∙ sym (b .long)) λ i h
     rw at at (says-unique (a .says T o) (b .says T o))
 
 module _ {S : Semiautomaton} (z : Sized S) {numbers : List ℕ} (t : TellsNeeds S numbers) where
-  bound : (i : ℕ) → i < length numbers → ¬ (getD numbers i 0 ≡ unmeasured) → ¬ (getD numbers i 0 ≡ endless)
+  pub bound : (i : ℕ) → i < length numbers → ¬ (getD numbers i 0 ≡ unmeasured) → ¬ (getD numbers i 0 ≡ endless)
       → getD numbers i 0 ≤ S .n * (S .n - 1) / 2
   bound i h x y =
       let (T, o, at) = each-place S i (rw (t .long) at h) in
       let d : Need S (member S T) (getD numbers i 0) = rw at at (t .says T o .need-is (rw at x) (rw at y) .1) in
       need-bound S (z .within) (member S T) (member-lt (z .within) T) (getD numbers i 0) d
 
-  most : S .n * (S .n - 1) / 2 ≤ maxLookahead
+  pub most : S .n * (S .n - 1) / 2 ≤ maxLookahead
   most = omega (arith, pairs-le (S .n) (z .n-high))
 
   -- no two states are different

@@ -16,7 +16,7 @@ use pairs::lifetimes::PAIRS;
 use plan::Loaded;
 
 // The number of a set that is empty or does not count.
-const UNMEASURED: u16 = 65534;
+pub const UNMEASURED: u16 = 65534;
 
 // What is answered: how many numbers are written, or a refusal.
 pub enum Needs {
@@ -91,7 +91,7 @@ fn enter_forks(
 }
 
 // The numbers of all critical sets, the initial states' first, into lent numbers of which the rest is kept.
-fn enter(needs: &mut [u16], sets: &[u64], n: usize, m: usize, starts: u64)
+pub fn enter(needs: &mut [u16], sets: &[u64], n: usize, m: usize, starts: u64)
     requires { ⌜ Fit n m (now sets) × (starts < 2 ^ n) × (n * m + 1 ≤ length (now needs)) ⌝ }
     ensures { λ r. ⌜ Filled (successors n m starts (now (sets .entry))) (now (needs .entry)) (now (needs .exit)) ⌝ }
 {
