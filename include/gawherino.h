@@ -1,4 +1,4 @@
-/* Gawherino for C: every call on plans, tables and records, over plain numbers and lent slices. Version 2.2.0.
+/* Gawherino for C: every call on plans, tables and records, over plain numbers and lent slices. Version 2.3.0.
  *
  * USE. The plan's bytes are in plan; the logger gives one code for each leg. No call allocates, so room is lent:
  *
@@ -44,7 +44,7 @@ extern "C" {
 /* The version of this header. A change of a call's parameters, of what it answers, or of the table's or the record's form raises the first
  * number, a further call the second. */
 #define GAWHERINO_VERSION_MAJOR 2
-#define GAWHERINO_VERSION_MINOR 2
+#define GAWHERINO_VERSION_MINOR 3
 #define GAWHERINO_VERSION_PATCH 0
 
 /* ANSWERS */
@@ -104,7 +104,7 @@ static inline uint32_t gawherino_refusal(uint32_t answer)
 #define GAWHERINO_MAX_PLAN 65535u
 /* What any plan needs at most: its look-ahead k; the numbers of its table, 4 + n * m; the bytes of its record, 8 + k; the bytes for the
  * codes of evidence, n * n; the sets of an ending, k; the bytes of its one form, 16 + p + 3 * e; the needs of its critical sets,
- * n * m + 1. */
+ * n * m + 1; the bytes of its page, 41 for each of these that has a line. */
 #define GAWHERINO_MAX_LOOKAHEAD 2016u
 #define GAWHERINO_MAX_TABLE 2052u
 #define GAWHERINO_MAX_RECORD 2024u
@@ -112,8 +112,11 @@ static inline uint32_t gawherino_refusal(uint32_t answer)
 #define GAWHERINO_MAX_SETS 2016u
 #define GAWHERINO_MAX_WRITTEN 12368u
 #define GAWHERINO_MAX_NEEDS 2049u
+#define GAWHERINO_MAX_PAGE 84009u
 /* The most legs of one walk. */
 #define GAWHERINO_MAX_LEGS 1000000u
+/* The bytes of a line of a page, its line feed among them. */
+#define GAWHERINO_PAGE_LINE 41u
 
 /* Places of the further values of reading, and how many there are. */
 #define GAWHERINO_COUNT_CODES 0  /* m */
@@ -145,6 +148,7 @@ static inline uint32_t gawherino_refusal(uint32_t answer)
 #define GAWHERINO_STACK_CHECK 16896u
 #define GAWHERINO_STACK_WRITE 16640u
 #define GAWHERINO_STACK_NEEDS 44544u
+#define GAWHERINO_STACK_PAGE 49152u
 #define GAWHERINO_STACK_STEP 256u
 #define GAWHERINO_STACK_WALK 256u
 #define GAWHERINO_STACK_JUDGE 512u
@@ -211,6 +215,14 @@ uint32_t gawherino_write(const uint8_t *plan, size_t plan_len, uint8_t *out, siz
  * largest of those other than 65,534, or 0 if there is no other; else preparing and the count answer 15, lent slices being long enough.
  * Refused with 1 to 7, 9, and never with 15. */
 uint32_t gawherino_needs(const uint8_t *plan, size_t plan_len, uint16_t *needs, size_t needs_len);
+
+/* The needs as a page to hang up: 0; into length (1): how many bytes it wrote, 41 for each set that counts and is not empty; into page:
+ * those sets' lines in the order of gawherino_needs, each of 40 characters and a line feed. Columns 1 to 4 have the stake and 6 to 9 the
+ * code, both right-aligned (for the starts `from`, and blanks for the code); 11 to 16 the need, right-aligned, or a dash in column 16 where
+ * there is none; 18 to 40 a bar, a hash sign for each stake of the set, 23 at the most. All other columns are blanks, the trailing ones
+ * too. A plan has a page also where preparing answers 15; one without starts has an empty page. Refused with 1 to 7, and with 9 where
+ * fewer bytes are lent than this plan's page has. */
+uint32_t gawherino_page(const uint8_t *plan, size_t plan_len, uint8_t *page, size_t page_len, uint64_t *length, size_t length_len);
 
 /* CALLS ON A TABLE */
 

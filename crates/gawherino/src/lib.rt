@@ -5,6 +5,7 @@ ghost use Rattle.plan.specs.Bytes.{asked};
 ghost use Rattle.prepare.specs.Preparing.{Draws};
 ghost use Rattle.numbers.specs.Numbers.{groupNumber};
 ghost use Rattle.plan_calls.specs.Promises.{PassesReading, PassesPrepared, PassesCount, PassesCheck, PassesWriting, PassesNeeds};
+ghost use Rattle.plan_calls.specs.Promises.{PassesPage};
 ghost use Rattle.table_calls.specs.Promises.{PassesStep, PassesWalk, PassesVerdict};
 ghost use Rattle.record_calls.specs.Promises.{PassesOpening, PassesLetter, PassesEnding};
 
@@ -71,6 +72,15 @@ pub extern "C" fn gawherino_needs(plan: &[u8], needs: &mut [u16]) -> u32
     ensures { λ r. ⌜ PassesNeeds (asked (now (plan .entry))) r (now (needs .entry)) (now (needs .exit)) ⌝ }
 {
     plan_calls::needs(plan, needs)
+}
+
+// The page of the needs: 0; further how many bytes.
+#[no_mangle]
+pub extern "C" fn gawherino_page(plan: &[u8], page: &mut [u8], length: &mut [u64]) -> u32
+    ensures { λ r. ⌜ PassesPage (asked (now (plan .entry))) r (now (page .entry)) (now (page .exit)) (now (length .entry))
+        (now (length .exit)) ⌝ }
+{
+    plan_calls::page(plan, page, length)
 }
 
 // CALLS ON A TABLE

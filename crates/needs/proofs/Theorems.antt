@@ -13,7 +13,7 @@ use lib.ListN.{length, getD, take}
 use lib.Seq.{take-append-seam, ext-getD}
 use borrow.Author.Tests.{le-ltb}
 use Rattle.semiautomata.specs.Semiautomaton.{Semiautomaton, Within}
-use Rattle.semiautomata.specs.Sizes.{Sized, maxLookahead, endless, unmeasured}
+use Rattle.semiautomata.specs.Sizes.{Sized, maxStates, maxLookahead, endless, unmeasured}
 use Rattle.semiautomata.specs.Predictability.{Critical, initial, fork, member, named, Counts, Need}
 use Rattle.semiautomata.specs.Successors.{place}
 use Rattle.semiautomata.proofs.Shares.{member-lt, need-unique, lookahead-unique, lookahead-predicts}
@@ -56,16 +56,16 @@ tells-unique {S} xs ys a b = ext-getD 0 xs ys (a .long ∙ sym (b .long)) λ i h
     let (T, o, at) = each-place S i (rw (a .long) at h) in
     rw at at (says-unique (a .says T o) (b .says T o))
 
-module _ {S : Semiautomaton} (z : Sized S) {numbers : List ℕ} (t : TellsNeeds S numbers) where
+module _ {S : Semiautomaton} (W : Within S) (few : S .n ≤ maxStates) {numbers : List ℕ} (t : TellsNeeds S numbers) where
   pub bound : (i : ℕ) → i < length numbers → ¬ (getD numbers i 0 ≡ unmeasured) → ¬ (getD numbers i 0 ≡ endless)
       → getD numbers i 0 ≤ S .n * (S .n - 1) / 2
   bound i h x y =
       let (T, o, at) = each-place S i (rw (t .long) at h) in
       let d : Need S (member S T) (getD numbers i 0) = rw at at (t .says T o .need-is (rw at x) (rw at y) .1) in
-      need-bound S (z .within) (member S T) (member-lt (z .within) T) (getD numbers i 0) d
+      need-bound S W (member S T) (member-lt W T) (getD numbers i 0) d
 
   pub most : S .n * (S .n - 1) / 2 ≤ maxLookahead
-  most = omega (arith, pairs-le (S .n) (z .n-high))
+  most = omega (arith, pairs-le (S .n) few)
 
   -- no two states are different
   alone : (T : Critical) → Of S T → Counts S T → (s : ℕ) → ((t : ℕ) → (member S T t ≡ true) ↔ (t ≡ s)) → getD numbers (placeOf S T) 0 ≡ 0
@@ -153,11 +153,11 @@ module _ (A : Asked) (P : Proper A) where
       each-place = λ i h. each-place (A .means) i (rw (written .long) at h);
       few = omega (arith, written .long, mul-le-mul (sized .n-high) (sized .m-high));
       fixed = λ others t. tells-unique others (take count needs) t written;
-      bound = bound sized written;
-      most = most sized written;
+      bound = bound W (sized .n-high) written;
+      most = most W (sized .n-high) written;
       marks-free = (omega arith, omega arith);
-      alone = alone sized written;
-      no-starts = no-starts sized written;
+      alone = alone W (sized .n-high) written;
+      no-starts = no-starts W (sized .n-high) written;
       largest-is = lookahead-largest W written;
       endless-is = (some-endless W written, unpredictable-endless W written);
       largest-k = λ none o d. largest-k none o (looked passes o d);

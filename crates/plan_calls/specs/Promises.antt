@@ -19,6 +19,8 @@ use Rattle.filing.specs.declared.Writing.{Writing}
 use Rattle.filing.specs.Writing.{Writes, outcomeOfWriting}
 use Rattle.needs.specs.declared.Needs.{Needs}
 use Rattle.needs.specs.Needs.{NeedsOf, outcomeOfNeeds}
+use Rattle.pages.specs.declared.Page.{Page}
+use Rattle.pages.specs.Paging.{PageOf, outcomeOfPage}
 use Rattle.numbers.specs.Numbers.{Numbers, valued, inNumbers, Passed, PassesOn}
 
 -- THE NUMBERS OF EACH OUTCOME
@@ -47,6 +49,10 @@ ofWriting a = inNumbers (λ count. valued count []) (outcomeOfWriting a)
 -- How many needs.
 abbrev pub ofNeeds : Needs → Numbers
 ofNeeds a = inNumbers (λ count. valued count []) (outcomeOfNeeds a)
+
+-- 0; how many bytes a page has, since they may be more than 65,535.
+abbrev pub ofPage : Page → Numbers
+ofPage a = inNumbers (λ count. valued 0 (count ∷ [])) (outcomeOfPage a)
 
 -- THE PROMISES
 
@@ -88,3 +94,6 @@ pub record PassesNeeds (A : Asked) (r : ℕ) (old needs : List ℕ) : Type 0 whe
   pub answer : Needs
   pub meets : NeedsOf A answer old needs
   pub passed : Passed (ofNeeds answer) r [] []
+
+abbrev pub PassesPage : Asked → ℕ → List ℕ → List ℕ → List ℕ → List ℕ → Type 0
+PassesPage A r old page old′ length = PassesOn ofPage 1 (A .checks) (λ a. PageOf A a old page) (page ≡ old) r old′ length

@@ -1,5 +1,5 @@
 // The calls on plan bytes for C, over plain numbers and lent slices: reading, preparing, the count call, the drawing program's entry, the
-// check of a claim, writing, the needs of the critical sets. Where a slice for further values has too few places for the most that a call
+// check of a claim, writing, the needs of the critical sets and their page. Where a slice for further values has too few places for the most that a call
 // may have to put there, the call is refused with 9 before anything is written.
 ghost use mathlib.Core.Path.{_≡_};
 ghost use Prim.Native.Nat.{_≤_};
@@ -8,13 +8,14 @@ ghost use Rattle.plan.specs.Bytes.{planChecks, asked};
 ghost use Rattle.prepare.specs.Preparing.{Draws};
 ghost use Rattle.numbers.specs.Numbers.{Passed, noRoom};
 ghost use Rattle.plan_calls.specs.Promises.{ofPrepared, claimOf, PassesReading, PassesPrepared, PassesCount, PassesCheck};
-ghost use Rattle.plan_calls.specs.Promises.{PassesWriting, PassesNeeds};
+ghost use Rattle.plan_calls.specs.Promises.{PassesWriting, PassesNeeds, PassesPage};
 ghost use Rattle.plan_calls.specs.inner.Sizes.{Fit32};
 use claim::Checked;
 use filing::Writing;
 use lookahead::Evidence;
 use needs::Needs;
 use numbers::REFUSED;
+use pages::Page;
 use plan::Reading;
 use prepare::Prepared;
 
@@ -161,5 +162,23 @@ pub fn needs(plan: &[u8], needs: &mut [u16]) -> u32
     match told {
         Needs::Entries(count) => count as u32,
         Needs::Refused(r) => REFUSED + r as u32,
+    }
+}
+
+// The page of the needs: 0; further how many bytes.
+pub fn page(plan: &[u8], page: &mut [u8], length: &mut [u64]) -> u32
+    ensures { λ r. ⌜ PassesPage (asked (now (plan .entry))) r (now (page .entry)) (now (page .exit)) (now (length .entry))
+        (now (length .exit)) ⌝ }
+{
+    if length.len() < 1 {
+        return no_room(plan);
+    }
+    let paged = pages::of_plan(plan, page);
+    match paged {
+        Page::Bytes(count) => {
+            length[0] = count as u64;
+            0
+        }
+        Page::Refused(r) => REFUSED + r as u32,
     }
 }

@@ -1,0 +1,111 @@
+-- The columns of a line: what is put into them, and that a line has 41 bytes.
+-- Assumes nothing.
+use Prim.Native.Nat.{ℕ, _+_, _-_, _^_, min, _≤_, _<_}
+use mathlib.Core.Bool.{Bool, true, false, cond}
+use mathlib.Core.Path.{_≡_, refl, sym, _∙_, ap}
+use mathlib.Core.List.{List, [], _∷_, _++_, append-assoc}
+use native.Mathlib.Omega.{arith}
+use lib.Dec.{eqb}
+use borrow.Author.Tests.{eq-eqb, ne-eqb}
+use lib.ListN.{length, take, drop, replicate, length-append, length-replicate}
+use lib.Seq.{take-all, drop-append-le}
+use Rattle.slices.specs.Appending.{Room, Appended}
+use Rattle.slices.proofs.Appending.{appended-none, room-left, room-on, appended-on}
+use Rattle.decimals.specs.Decimals.{decimal, blanks, right, left}
+use Rattle.decimals.proofs.Digits.{decimal-length}
+use Rattle.decimals.proofs.Columns.{drop-row, right-long, left-long}
+use Rattle.semiautomata.specs.Sizes.{endless, unmeasured}
+use Rattle.pages.specs.inner.Rows.{label, rest}
+use Rattle.semiautomata.specs.Predictability.{initial}
+use Rattle.pages.specs.Page.{stateText, letterText, needText, longestBar, bar, line, pageLine, shown}
+
+-- A NUMBER: the last of six columns
+
+pub last-columns : (width : ℕ) (text : List ℕ) → length text ≤ width → width ≤ 6 → take (6 - (6 - width)) (drop (6 - width) (right 6 text)) ≡ right width text
+unfolding right
+last-columns width text h g =
+    let b : 6 - width + (width - length text) ≡ 6 - length text = omega arith in
+    let cut : drop (6 - width) (blanks (6 - length text) ++ text) ≡ blanks (width - length text) ++ text =
+    drop-append-le (6 - width) (blanks (6 - length text)) text (rw length-replicate (omega arith))
+    ∙ ap (λ (l : List ℕ). l ++ text) (rw b at (drop-row (6 - width) (width - length text) 32)) in
+    rw cut (take-all (6 - (6 - width)) (blanks (width - length text) ++ text) (simp (length-append, length-replicate) (omega arith)))
+
+-- THE BAR: signs put over the front of blank columns
+
+pub bar-put : (count : ℕ) {columns : List ℕ} → columns ≡ bar count ++ drop (min longestBar count) (blanks longestBar)
+    → columns ≡ left longestBar (bar count)
+unfolding left
+bar-put count e = e ∙ go (min longestBar count) (omega arith)
+  where
+    go : (c : ℕ) → c ≤ longestBar → replicate c 35 ++ drop c (blanks longestBar) ≡ replicate c 35 ++ blanks (longestBar - length {A = ℕ} (replicate c 35))
+    go c h =
+        let all : c + (longestBar - c) ≡ longestBar = omega arith in
+        rw (length-replicate {A = ℕ} c 35) (ap (λ (l : List ℕ). replicate c 35 ++ l) (rw all at (drop-row c (longestBar - c) 32)))
+
+-- A NEED
+
+pub need-dash : {v : ℕ} → v ≡ endless → right 6 (needText v) ≡ 32 ∷ 32 ∷ 32 ∷ 32 ∷ 32 ∷ 45 ∷ []
+unfolding right
+need-dash {v} e = rw (eq-eqb v endless e)
+
+pub need-number : {v : ℕ} → ¬ (v ≡ endless) → right 6 (needText v) ≡ right 6 (decimal v)
+need-number {v} ne = rw (ne-eqb v endless ne)
+
+-- A LINE
+
+either-short : (b : Bool) (v : ℕ) → v < 10 ^ 6 → length (cond b (45 ∷ []) (decimal v)) ≤ 6
+either-short true v h = omega arith
+either-short false v h = decimal-length 5 v h
+
+pub need-short : (v : ℕ) → v < 10 ^ 6 → length (needText v) ≤ 6
+need-short v = either-short (eqb v endless) v
+
+pub bar-short : (count : ℕ) → length (bar count) ≤ longestBar
+bar-short count = rw length-replicate (omega arith)
+
+pub line-long : (state letter : List ℕ) (v count : ℕ) → length state ≤ 4 → length letter ≤ 4 → length (needText v) ≤ 6
+    → length (line state letter v count) ≡ pageLine
+unfolding line
+line-long state letter v count a b c =
+    simp length-append (omega (
+      arith,
+      right-long 4 state a,
+      right-long 4 letter b,
+      right-long 6 (needText v) c,
+      left-long longestBar (bar count) (bar-short count),
+    ))
+
+-- in two parts: the first nine columns, and the rest
+regroup : (f a b c d e : List ℕ) → f ++ a ++ b ++ c ++ d ++ e ≡ f ++ (a ++ b ++ c ++ d ++ e)
+regroup f a b c d e = simp append-assoc
+
+pub line-parts : (state letter : List ℕ) (v count : ℕ)
+    → line state letter v count ≡ label state letter ++ rest v count
+unfolding line
+line-parts state letter v count =
+    regroup (label state letter) (blanks 1) (right 6 (needText v)) (blanks 1) (left longestBar (bar count)) (10 ∷ [])
+
+two-parts : (state letter : List ℕ) {v : ℕ} (count : ℕ) → ¬ (v ≡ unmeasured)
+    → shown v (line state letter v count) ≡ label state letter ++ rest v count
+two-parts state letter {v} count ne = rw (ne-eqb v unmeasured ne) (line-parts state letter v count)
+
+-- what is put of a set: nothing, or the two parts of its line
+module _ (state letter : List ℕ) (v count : ℕ) {old : List ℕ} {at : ℕ} where
+  pub put-nothing : v ≡ unmeasured → Room old at (shown v (line state letter v count)) → Appended old at (shown v (line state letter v count)) at old
+  put-nothing e h = rw (eq-eqb v unmeasured e) (appended-none at (omega (arith, h .fits)))
+
+  module _ (ne : ¬ (v ≡ unmeasured)) where
+    pub label-room : Room old at (shown v (line state letter v count)) → Room old at (label state letter)
+    label-room h = room-left (label state letter) (rest v count) (rw (two-parts state letter count ne) at h)
+
+    module _ {r : ℕ} {mid : List ℕ} (p : Appended old at (label state letter) r mid) where
+      pub rest-room : Room old at (shown v (line state letter v count)) → Room mid r (rest v count)
+      rest-room h = room-on p (rw (two-parts state letter count ne) at h)
+
+      pub put-line : {q : ℕ} {out : List ℕ} → Appended mid r (rest v count) q out → Appended old at (shown v (line state letter v count)) q out
+      put-line p′ = rw (two-parts state letter count ne) (appended-on p p′)
+
+-- the first nine columns of the initial states
+pub starts-label : label (stateText initial) (letterText initial) ≡ 102 ∷ 114 ∷ 111 ∷ 109 ∷ 32 ∷ 32 ∷ 32 ∷ 32 ∷ 32 ∷ []
+unfolding right
+starts-label = refl

@@ -1,0 +1,4 @@
+pub mod Page
+pub mod Paging
+pub mod Theorems
+pub mod inner

@@ -1,0 +1,3 @@
+-- What only inner functions promise each other.
+pub mod Rows
+pub mod Sets

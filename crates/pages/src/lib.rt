@@ -1,0 +1,193 @@
+// The page for the hut wall (document 02, W-206): the needs of a plan's critical sets, a line to each that counts and is not empty.
+ghost use mathlib.Core.Path.{_≡_};
+ghost use mathlib.Core.List.{[], _∷_, _++_};
+ghost use Prim.Native.Nat.{_+_, _*_, _^_, min, _≤_, _<_};
+ghost use lib.ListN.{length};
+ghost use Rattle.slices.specs.Appending.{each, Room, Appended};
+ghost use Rattle.decimals.specs.Decimals.{decimal, blanks, right, left};
+ghost use Rattle.semiautomata.specs.Successors.{successors, Fit};
+ghost use Rattle.plan.specs.Bytes.{asked};
+ghost use Rattle.pages.specs.Page.{needText, longestBar, bar, linesBefore};
+ghost use Rattle.pages.specs.Paging.{PageOf};
+ghost use Rattle.pages.specs.inner.Sets.{PageBy};
+ghost use Rattle.pages.specs.inner.Rows.{states, label, rest, startsShown, forkShown, rowShown};
+use needs::UNMEASURED;
+use pairs::lifetimes::ENDLESS;
+use plan::Loaded;
+
+// What is answered: how many bytes are written, or a refusal.
+pub enum Page {
+    Bytes(usize),
+    Refused(u8),
+}
+
+// The bytes of a line, its line feed among them; of the longest bar; and of the largest page.
+const LINE: usize = 41;
+
+const BAR: usize = 23;
+
+const MOST_NEEDS: usize = semiautomata::MAX_SETS + 1;
+
+pub const MAX_PAGE: usize = LINE * MOST_NEEDS;
+
+// A number, right-aligned in so many columns, six at the most.
+fn put_number(out: &mut [u8], at: usize, width: usize, x: u64) -> usize
+    requires { ⌜ (length (decimal x) ≤ width) × (width ≤ 6) × Room (now out) at (right width (decimal x)) ⌝ }
+    ensures { λ r. ⌜ Appended (now (out .entry)) at (right width (decimal x)) r (now (out .exit)) ⌝ }
+{
+    let mut columns = [b' '; 6];
+    decimals::right(&mut columns, x);
+    let from = 6 - width;
+    slices::append(out, at, &columns[from..])
+}
+
+// A need; a dash in the last column where there is none.
+fn put_need(out: &mut [u8], at: usize, need: u16) -> usize
+    requires { ⌜ Room (now out) at (right 6 (needText need)) ⌝ }
+    ensures { λ r. ⌜ Appended (now (out .entry)) at (right 6 (needText need)) r (now (out .exit)) ⌝ }
+{
+    if need == ENDLESS {
+        slices::append(out, at, b"     -")
+    } else {
+        put_number(out, at, 6, need as u64)
+    }
+}
+
+// How many signs the bar of so many states has.
+fn signs(count: u32) -> usize
+    ensures { λ r. ⌜ r ≡ min longestBar count ⌝ }
+{
+    if count < 23 { count as usize } else { BAR }
+}
+
+// The bar of so many states, left-aligned.
+fn put_bar(out: &mut [u8], at: usize, count: u32) -> usize
+    requires { ⌜ Room (now out) at (left longestBar (bar count)) ⌝ }
+    ensures { λ r. ⌜ Appended (now (out .entry)) at (left longestBar (bar count)) r (now (out .exit)) ⌝ }
+{
+    let mut columns = [b' '; BAR];
+    for i in 0..signs(count) {
+        columns[i] = b'#';
+    }
+    slices::append(out, at, &columns)
+}
+
+// The first nine columns of a fork set: its state and its letter.
+fn put_label(out: &mut [u8], at: usize, q: usize, a: usize) -> usize
+    requires { ⌜ (q < 64) × (a < 32) × Room (now out) at (label (decimal q) (decimal a)) ⌝ }
+    ensures { λ r. ⌜ Appended (now (out .entry)) at (label (decimal q) (decimal a)) r (now (out .exit)) ⌝ }
+{
+    let state_end = put_number(out, at, 4, q as u64);
+    let letter_at = slices::append(out, state_end, b" ");
+    put_number(out, letter_at, 4, a as u64)
+}
+
+// A line from column 10 on: the need, the bar of a set, the line feed.
+fn put_rest(out: &mut [u8], at: usize, need: u16, set: u64) -> usize
+    requires { ⌜ Room (now out) at (rest need (states set)) ⌝ }
+    ensures { λ r. ⌜ Appended (now (out .entry)) at (rest need (states set)) r (now (out .exit)) ⌝ }
+{
+    let need_at = slices::append(out, at, b" ");
+    let need_end = put_need(out, need_at, need);
+    let bar_at = slices::append(out, need_end, b" ");
+    let bar_end = put_bar(out, bar_at, u64::count_ones(set));
+    slices::append(out, bar_end, b"\n")
+}
+
+// The line of the initial states, if they have one.
+fn put_starts(out: &mut [u8], at: usize, need: u16, set: u64) -> usize
+    requires { ⌜ Room (now out) at (startsShown need set) ⌝ }
+    ensures { λ r. ⌜ Appended (now (out .entry)) at (startsShown need set) r (now (out .exit)) ⌝ }
+{
+    if need == UNMEASURED {
+        return at;
+    }
+    let end = slices::append(out, at, b"from     ");
+    put_rest(out, end, need, set)
+}
+
+// The line of a fork set, if it has one.
+fn put_fork(out: &mut [u8], at: usize, q: usize, a: usize, need: u16, set: u64) -> usize
+    requires { ⌜ (q < 64) × (a < 32) × Room (now out) at (forkShown q a need set) ⌝ }
+    ensures { λ r. ⌜ Appended (now (out .entry)) at (forkShown q a need set) r (now (out .exit)) ⌝ }
+{
+    if need == UNMEASURED {
+        return at;
+    }
+    let end = put_label(out, at, q, a);
+    put_rest(out, end, need, set)
+}
+
+// The lines of a state's fork sets.
+fn put_row(out: &mut [u8], at: usize, needs: &[u16], sets: &[u64], m: usize, q: usize) -> usize
+    requires { ⌜ (q < 64) × (m ≤ 32) × (q * m + m < length (now needs)) × (q * m + m ≤ length (now sets))
+        × Room (now out) at (rowShown m (now needs) (now sets) q) ⌝ }
+    ensures { λ r. ⌜ Appended (now (out .entry)) at (rowShown m (now (needs .entry)) (now (sets .entry)) q) r (now (out .exit)) ⌝ }
+{
+    let mut end = at;
+    for a in 0..m {
+        let place = q * m + a;
+        end = put_fork(out, end, q, a, needs[place + 1], sets[place]);
+    }
+    end
+}
+
+// .. of all states.
+fn put_forks(out: &mut [u8], at: usize, needs: &[u16], sets: &[u64], n: usize, m: usize) -> usize
+    requires { ⌜ (n ≤ 64) × (m ≤ 32) × (n * m < length (now needs)) × (n * m ≤ length (now sets))
+        × Room (now out) at (each n (rowShown m (now needs) (now sets))) ⌝ }
+    ensures { λ r. ⌜ Appended (now (out .entry)) at (each n (rowShown m (now (needs .entry)) (now (sets .entry)))) r (now (out .exit)) ⌝ }
+{
+    let mut end = at;
+    for q in 0..n {
+        end = put_row(out, end, needs, sets, m, q);
+    }
+    end
+}
+
+// How many numbers have a line.
+fn lines(needs: &[u16]) -> usize
+    ensures { λ r. ⌜ (r ≡ linesBefore (now (needs .entry)) (length (now (needs .entry)))) × (r ≤ length (now (needs .entry))) ⌝ }
+{
+    let mut count = 0;
+    for i in 0..needs.len() {
+        if needs[i] != UNMEASURED {
+            count += 1;
+        }
+    }
+    count
+}
+
+// The page of successor sets, into bytes that keep their rest; 9 where there are too few.
+fn of_sets(page: &mut [u8], sets: &[u64], n: usize, m: usize, starts: u64) -> Page
+    requires { ⌜ Fit n m (now sets) × (starts < 2 ^ n) ⌝ }
+    ensures { λ r. ⌜ PageBy (successors n m starts (now (sets .entry))) r (now (page .entry)) (now (page .exit)) ⌝ }
+{
+    let count = n * m + 1;
+    let mut room = [0u16; MOST_NEEDS];
+    needs::enter(&mut room, sets, n, m, starts);
+    let needs = &room[..count];
+    if page.len() < LINE * lines(needs) {
+        return Page::Refused(9);
+    }
+    let forks_at = put_starts(page, 0, needs[0], starts);
+    Page::Bytes(put_forks(page, forks_at, needs, sets, n, m))
+}
+
+// The page of a plan.
+pub fn of_plan(plan: &[u8], page: &mut [u8]) -> Page
+    ensures { λ r. ⌜ PageOf (asked (now (plan .entry))) r (now (page .entry)) (now (page .exit)) ⌝ }
+{
+    let mut sets = [0u64; semiautomata::MAX_SETS];
+    let loaded = plan::load(plan, &mut sets);
+    match loaded {
+        Loaded::Refused(r) => Page::Refused(r),
+        Loaded::Plan {
+            n,
+            m,
+            p: _,
+            e: _,
+            starts,
+        } => of_sets(page, &sets, n as usize, m as usize, starts),
+    }
+}
