@@ -1,7 +1,7 @@
 #!/usr/bin/env bash
 # Deliberate faults: each is put into a copy of the reference, and the comparison with the proved library must catch it.
 # All stand in one copy, which is built once; GAWHERINO_FAULT says which of them is on, and with none the copy must pass. Prints for each
-# fault which tests caught it; the last line says whether all were caught. A minute or two. A word as argument tries only the faults that
+# fault which tests caught it; the last line says whether all were caught. A few minutes. A word as argument tries only the faults that
 # have it in their name.
 set -u
 only=${1-}
@@ -103,6 +103,73 @@ fault "together: 65,535 passed over" lookahead.rs 'if numbers.contains(&HAS_NONE
 fault "together: without the starts" lookahead.rs 'let others = numbers.iter()' 'let others = numbers.iter().skip(FAULT as usize)'
 fault "together: the starts alone" lookahead.rs 'let others = numbers.iter()' 'let others = numbers.iter().take(if FAULT { 1 } else { usize::MAX })'
 fault "together: the set behind the one that the evidence names" lookahead.rs '1 + stake as usize * m + code as usize' '1 + FAULT as usize + stake as usize * m + code as usize'
+fault "page: the stake left-aligned" page.rs 'line.up_to(4, &name.0.to_string());' 'line.up_to(if FAULT { name.0.to_string().len() } else { 4 }, &name.0.to_string());'
+fault "page: the code left-aligned" page.rs 'line.up_to(9, &name.1.to_string());' 'line.up_to(if FAULT { 5 + name.1.to_string().len() } else { 9 }, &name.1.to_string());'
+fault "page: the need left-aligned" page.rs 'line.up_to(16, &need.to_string());' 'line.up_to(if FAULT { 10 + need.to_string().len() } else { 16 }, &need.to_string());'
+fault "page: a dash in column 11" page.rs 'line.at(16, "-");' 'line.at(if FAULT { 11 } else { 16 }, "-");'
+fault "page: a dash in column 15" page.rs '} else { 16 }, "-");' '} else if FAULT { 15 } else { 16 }, "-");'
+fault "page: dashes in all columns of the need" page.rs 'if need == HAS_NONE {' 'if need == HAS_NONE { if FAULT { line.at(11, "-----"); }'
+fault "page: 65535 for a dash" page.rs 'if need == HAS_NONE {' 'if need == HAS_NONE && !FAULT {'
+fault "page: the need filled up with zeros" page.rs 'if need == HAS_NONE ' 'if FAULT && need != HAS_NONE { line.at(11, "000000"); } if need == HAS_NONE '
+fault "page: one too large a need" page.rs 'let mut line = Line::blank();' 'let need = if FAULT && need != HAS_NONE { need + 1 } else { need }; let mut line = Line::blank();'
+fault "page: a need of four digits cut to three" page.rs 'let mut line = Line::blank();' 'let need = if FAULT && need != HAS_NONE { need % 1000 } else { need }; let mut line = Line::blank();'
+fault "page: stake and code exchanged" page.rs 'let mut line = Line::blank();' 'let name = if FAULT && name != STARTS { (name.1, name.0) } else { name }; let mut line = Line::blank();'
+fault "page: stakes counted from 1" page.rs 'let mut line = Line::blank();' 'let name = if FAULT && name != STARTS { (name.0 + 1, name.1) } else { name }; let mut line = Line::blank();'
+fault "page: a bar of 22 at the most" page.rs 'stakes.min(23)' 'stakes.min(23 - FAULT as usize)'
+fault "page: a bar of 24 at the most" page.rs 'page += "\n";' 'if FAULT && size(&set) > 23 { page += "#"; } page += "\n";'
+fault "page: the bar from column 17 on" page.rs 'line.at(18,' 'line.at(18 - FAULT as usize,'
+fault "page: the bar right-aligned" page.rs 'line.at(18 - ' 'let wide = if FAULT { 23 - stakes.min(23) } else { 0 }; line.at(wide + 18 - '
+fault "page: a bar of all stakes of the plan" page.rs 'size(&set)).0' 'if FAULT { plan.n } else { size(&set) }).0'
+fault "page: a bar of all stakes that walks reach" page.rs 'page.extend(line(' 'let set = if FAULT { plan.reached() } else { set }; page.extend(line('
+fault "page: a bar of dashes" page.rs '"#".repeat(' '(if FAULT { "-" } else { "#" }).repeat('
+fault "page: a hash sign too few" page.rs 'repeat(stakes' 'repeat((stakes - FAULT as usize)'
+fault "page: a bar as long as the need" page.rs 'let mut line = Line::blank();' 'let stakes = if FAULT { need as usize } else { stakes }; let mut line = Line::blank();'
+fault "page: a line for 65,534" page.rs 'if need == NOT_COUNTED {' 'if need == NOT_COUNTED && !FAULT {'
+fault "page: a line for a fork that no walk reaches" page.rs 'if need == NOT_COUNTED ' 'if need == NOT_COUNTED && !(FAULT && plan.named(name.0, name.1).is_some_and(|set| size(&set) > 0)) '
+fault "page: a line for starts that are none" page.rs 'if need == NOT_COUNTED ' 'if need == NOT_COUNTED && !(FAULT && name == STARTS) '
+fault "page: no line for a need of 0" page.rs 'if need == NOT_COUNTED ' 'if (FAULT && need == 0) || need == NOT_COUNTED '
+fault "page: no line for a dash" page.rs 'need == 0) || ' 'need == 0) || (FAULT && need == HAS_NONE) || '
+fault "page: the starts' line with a blank stake" page.rs 'line.at(1, "from");' 'if !FAULT { line.at(1, "from"); }'
+fault "page: the starts' line with a code 0" page.rs 'if name == STARTS {' 'if name == STARTS { if FAULT { line.up_to(9, "0"); }'
+fault "page: the word from a column to the right" page.rs 'line.at(1, ' 'line.at(1 + FAULT as usize, '
+fault "page: 255 for the word from" page.rs 'if name == STARTS {' 'if name == STARTS && !FAULT {'
+fault "page: the starts last" page.rs 'for (name, need) in names.into_iter().zip(needs(plan)) {' 'let mut sets: Vec<_> = names.into_iter().zip(needs(plan)).collect(); if FAULT { sets.rotate_left(1); } for (name, need) in sets {'
+fault "page: code by code" page.rs 'for (name, need) in sets {' 'if FAULT { sets[1..].sort_by_key(|((stake, code), _)| (*code, *stake)); } for (name, need) in sets {'
+fault "page: without trailing blanks" page.rs 'page += "\n";' 'if FAULT { page.truncate(page.trim_end_matches(" ").len()); } page += "\n";'
+fault "page: lines of 39 characters where a bar leaves room" page.rs 'page += "\n";' 'if FAULT && page.ends_with(" ") { page.pop(); } page += "\n";'
+fault "page: no line feed behind the last line" calls.rs 'let text = pages::page(&plan::read(plan)?.plan);' 'let mut text = pages::page(&plan::read(plan)?.plan); if FAULT { text.pop(); }'
+fault "page: 9 before 1 to 7" calls.rs 'fn page(plan: &[u8], page: &mut [u8], length: &mut [u64]) -> Result<u32, Refusal> {' 'fn page(plan: &[u8], page: &mut [u8], length: &mut [u64]) -> Result<u32, Refusal> { if FAULT && plan::read(plan).is_err() { lent(page, 41, "page")?; }'
+fault "page: 9 for the length before 1 to 7" calls.rs 'let mut text = pages::page(' 'if FAULT { lent(length, 1, "length")?; } let mut text = pages::page('
+fault "page: 9 by 41 × (n × m + 1)" calls.rs 'lent(page, text.len(), "page")?;' 'if FAULT { let plan = plan::read(plan)?.plan; lent(page, 41 * (plan.n * plan.m + 1), "page")?; } lent(page, text.len(), "page")?;'
+fault "page: 9 one byte late" calls.rs 'lent(page, text.len(), "page")?;' 'let text = if FAULT && page.len() + 1 == text.len() { text[..page.len()].to_string() } else { text }; lent(page, text.len(), "page")?;'
+fault "page: 9 one line late" calls.rs 'lent(page, text.len(), "page")?;' 'let text = if FAULT && page.len() < text.len() && page.len() + 41 >= text.len() { text[..text.len() - 41].to_string() } else { text }; lent(page, text.len(), "page")?;'
+fault "page: written as far as is lent, and then 9" calls.rs 'lent(page, text.len(), "page")?;' 'if FAULT && page.len() < text.len() { let room = page.len(); put(page, &text.as_bytes()[..room]); } lent(page, text.len(), "page")?;'
+fault "page: the length written, and then 9" calls.rs 'lent(page, text.len(), "page")?;' 'if FAULT && !length.is_empty() { put(length, &[text.len() as u64]); } lent(page, text.len(), "page")?;'
+fault "page: written, and then 9 for the length" calls.rs 'lent(page, text.len(), "page")?;' 'lent(page, text.len(), "page")?; if FAULT && length.is_empty() { put(page, text.as_bytes()); }'
+fault "page: no 9 for a length without a place" calls.rs 'lent(page, text.len(), "page")?;' 'lent(page, text.len(), "page")?; if FAULT && length.is_empty() { put(page, text.as_bytes()); return Ok(0); }'
+fault "page: 15 for a plan without k" calls.rs 'lent(page, text.len(), "page")?;' 'lent(page, text.len(), "page")?; if FAULT && lookahead::look_ahead(&plan::read(plan)?.plan).is_none() { return refuse(15, "no k"); }'
+fault "page: no starts refused with 13" calls.rs 'lent(page, text.len(), "page")?;' 'lent(page, text.len(), "page")?; if FAULT && !plan::read(plan)?.plan.starts.contains(&true) { return refuse(13, "no starts"); }'
+fault "page: 9 for an empty page into nothing" calls.rs 'lent(page, text.len(), "page")?;' 'if FAULT && text.is_empty() { lent(page, 1, "page")?; } lent(page, text.len(), "page")?;'
+fault "page: 9 for as many bytes as the page has" calls.rs 'lent(page, text.len(), "page")?;' 'lent(page, text.len() + FAULT as usize, "page")?;'
+fault "page: the rest of the buffer cleared" calls.rs 'put(page, text.as_bytes());
+    put(length' 'put(page, text.as_bytes()); if FAULT { page[text.len()..].fill(0); }
+    put(length'
+fault "page: a byte 0 behind the page" calls.rs 'page[text.len()..].fill(0); }' 'page[text.len()..].fill(0); } if FAULT && page.len() > text.len() { page[text.len()] = 0; }'
+fault "page: the length not written" calls.rs 'put(length, &[text.len() as u64]);
+    Ok(0)' 'if !FAULT { put(length, &[text.len() as u64]); }
+    Ok(0)'
+fault "page: the length of an empty page not written" calls.rs 'put(length, &[text.len() as u64]); }
+    Ok(0)' 'if !FAULT || !text.is_empty() { put(length, &[text.len() as u64]); } }
+    Ok(0)'
+fault "page: how many lines for the length" calls.rs 'put(length, &[text.len() as u64]); } }
+    Ok(0)' 'put(length, &[text.len() as u64 / if FAULT { 41 } else { 1 }]); } }
+    Ok(0)'
+fault "page: the length cut to 16 bits" calls.rs '{ 1 }]); } }
+    Ok(0)' '{ 1 }]); if FAULT { put(length, &[text.len() as u16 as u64]); } } }
+    Ok(0)'
+fault "page: the length answered" calls.rs '} } }
+    Ok(0)' '} } } if FAULT { return Ok(text.len() as u32); }
+    Ok(0)'
 fault "group: a number cut to 8 bits" mod.rs 'list.contains(&number)' 'list.contains(&if FAULT { number % 256 } else { number })'
 fault "group: caller and logger exchanged" mod.rs 'place as u32 + 1)' 'if FAULT && place > 0 { 4 - place as u32 } else { place as u32 + 1 })'
 fault "in doubt: with k legs behind" doubt.rs 'pairs.share(x, y, legs)' 'pairs.share(x, y, legs + FAULT as usize)'
@@ -127,6 +194,14 @@ fault "report: a refused leg does not end the walk" report.rs 'ended = refused(r
         break;'
 fault "report: 15 under the caller" report.rs '[group(number) as usize - 1]' '[if FAULT && number == 15 { 1 } else { group(number) as usize - 1 }]'
 fault "report: 11 one leg late" report.rs 'taken.len() == MOST_LEGS' 'taken.len() == MOST_LEGS + FAULT as usize'
+# the page program likewise
+kind=page
+fault "page program: bytes behind the plan refused with 1" page.rs 'Ok((read, _)) => page(&read.plan),' 'Ok((_, behind)) if FAULT && !behind.is_empty() => refused(1), Ok((read, _)) => page(&read.plan),'
+fault "page program: 15 for a plan without k" page.rs 'Ok((read, _)) => page(&read.plan),' 'Ok((read, _)) if FAULT && super::lookahead::look_ahead(&read.plan).is_none() => refused(15), Ok((read, _)) => page(&read.plan),'
+fault "page program: 13 for an empty page" page.rs 'Ok((read, _)) => page(&read.plan),' 'Ok((read, _)) if FAULT && page(&read.plan).is_empty() => refused(13), Ok((read, _)) => page(&read.plan),'
+fault "page program: a refusal without its group" page.rs 'Err(number) => refused(number),' 'Err(number) if FAULT => format!("refused {number}\n"), Err(number) => refused(number),'
+fault "page program: a refusal without its line" page.rs 'Err(number) => refused(number),' 'Err(_) if FAULT => String::new(), Err(number) => refused(number),'
+fault "page program: 1 for a total of 16" report.rs 'if total < HEADER ||' 'if total < HEADER + FAULT as usize ||'
 
 cat >>"$room/copy/src/lib.rs" <<'END'
 
@@ -137,32 +212,34 @@ pub fn fault(number: usize) -> bool {
 }
 END
 cargo build --release --offline --quiet --bin expected || exit 2
-export GAWHERINO_REPORT=$PWD/target/release/expected
-(cd "$room/copy" && CARGO_TARGET_DIR=$room/target cargo test --release --offline --no-run --test documents --test comparison --test report) >"$room/built" 2>&1 ||
+export GAWHERINO_REPORT=$PWD/target/release/expected GAWHERINO_PAGE=$room/page
+printf '#!/bin/sh\nexec "%s" page\n' "$GAWHERINO_REPORT" >"$GAWHERINO_PAGE" && chmod +x "$GAWHERINO_PAGE" || exit 2
+(cd "$room/copy" && CARGO_TARGET_DIR=$room/target cargo test --release --offline --no-run --test documents --test comparison --test report --test page) >"$room/built" 2>&1 ||
     { cat "$room/built"; echo "BROKEN  the copy does not compile"; exit 2; }
 program() { sed -n "s/.*tests\/$1\.rs (\(.*\))/\1/p" "$room/built"; }
-documents=$(program documents) comparison=$(program comparison) report=$(program report)
-[ -x "$documents" ] && [ -x "$comparison" ] && [ -x "$report" ] || { cat "$room/built"; exit 2; }
+documents=$(program documents) comparison=$(program comparison) report=$(program report) page=$(program page)
+[ -x "$documents" ] && [ -x "$comparison" ] && [ -x "$report" ] && [ -x "$page" ] || { cat "$room/built"; exit 2; }
 
-# run NUMBER KIND: the tests with that fault on; what they say goes into a file
+# run NUMBER KIND: the tests with that fault on; what they say goes into a file. How the page program reads is no matter of the reference.
 run() {
     export GAWHERINO_FAULT=$1
     cd "$room/copy" || exit 2
-    if [ "$2" != report ]; then
+    case $2 in calls | evidence | all)
         "$documents" --skip million
         "$comparison" library
-    fi
-    if [ "$2" = report ] || [ "$2" = all ]; then
-        "$report"
-    fi
+        ;;
+    esac
+    case $2 in report | all) "$report" ;; esac
+    case $2 in page | all) "$page" --skip reading:: ;; esac
 }
 
-# the tests that compare with the library, that check evidence, or that compare with the report program
+# the tests that compare with the library, that check evidence, or that compare with one of the programs
 comparing() {
     case $1 in
     calls) echo library ;;
     evidence) echo one_set_under_several_names ;;
     report) echo '\(random_plans_and_legs\|a_refused_leg_at_every_border\|a_million_legs_and_the_next\)' ;;
+    page) echo '\(random_plans\|refusals_1_to_7\|plans_that_are_not_refused\)' ;;
     esac
 }
 
@@ -175,7 +252,7 @@ for i in "${!names[@]}"; do
     going=$((going + 1))
 done
 wait
-if grep -q FAILED "$room/said.0" || [ "$(grep -c '^test result: ok' "$room/said.0")" -ne 3 ]; then
+if grep -q FAILED "$room/said.0" || [ "$(grep -c '^test result: ok' "$room/said.0")" -ne 4 ]; then
     cat "$room/said.0"
     echo "BROKEN  the copy fails with no fault on"
     exit 2

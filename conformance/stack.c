@@ -25,6 +25,8 @@ static uint8_t out[GAWHERINO_MAX_WRITTEN];
 static size_t out_len;
 static uint16_t needs[GAWHERINO_MAX_NEEDS];
 static size_t needs_len;
+static uint8_t page[GAWHERINO_MAX_PAGE];
+static size_t page_len;
 static uint8_t word[5000];
 static size_t word_len;
 static uint64_t sets[5001];
@@ -46,6 +48,8 @@ static uint32_t state, letter, answer;
       (plan, plan_len, evidence, GAWHERINO_EVIDENCE, letters, letters_len)) \
     X(write, WRITE, (const uint8_t *a, size_t b, uint8_t *c, size_t d), (plan, plan_len, out, out_len)) \
     X(needs, NEEDS, (const uint8_t *a, size_t b, uint16_t *c, size_t d), (plan, plan_len, needs, needs_len)) \
+    X(page, PAGE, (const uint8_t *a, size_t b, uint8_t *c, size_t d, uint64_t *e, size_t f), \
+      (plan, plan_len, page, page_len, length, 1)) \
     X(step, STEP, (const uint64_t *a, size_t b, uint64_t c, uint32_t d, uint64_t *e, size_t f), (table, table_len, set, letter, next, 1)) \
     X(walk, WALK, (const uint64_t *a, size_t b, const uint8_t *c, size_t d, uint64_t *e, size_t f, uint64_t *g, size_t h), \
       (table, table_len, word, word_len, sets, word_len + 1, length, 1)) \
@@ -254,23 +258,26 @@ static void lettered(const char *text, size_t n, size_t m)
 #define NONE (GAWHERINO_REFUSED + GAWHERINO_NO_LOOKAHEAD)
 #define SOME 65535u /* some look-ahead */
 
-/* Every call on one plan with this look-ahead: reading, writing, needs, counting and preparing, refused ones too; a walk; claims. */
+/* Every call on one plan with this look-ahead: reading, writing, needs and their page, counting and preparing, refused ones too; a walk;
+ * claims. */
 static void on_this_plan(uint32_t expected, size_t legs)
 {
-    uint32_t n, m, k, i, j, refused;
+    uint32_t n, m, k, i, j, lines, refused;
     uint8_t kept;
     n = measure(READ);
     if (n >= GAWHERINO_REFUSED)
         n = 1;
     m = counts[GAWHERINO_COUNT_CODES];
     table_len = GAWHERINO_MAX_TABLE;
-    letters_len = out_len = needs_len = 0;
+    letters_len = out_len = needs_len = page_len = 0;
     measure(PREPARE); /* 9 */
     measure(WRITE);
     measure(NEEDS);
+    measure(PAGE); /* or an empty page */
     letters_len = GAWHERINO_MAX_LETTERS;
     out_len = GAWHERINO_MAX_WRITTEN;
     needs_len = sizeof needs / sizeof needs[0];
+    page_len = sizeof page;
     for (i = 0; i < 16; i++) { /* damaged plan bytes: one of 1 to 7, mostly */
         size_t at = i < 8 ? 2 * i : 16 + below((uint32_t)(plan_len - 16 + 1));
         kept = plan[at];
@@ -282,6 +289,7 @@ static void on_this_plan(uint32_t expected, size_t legs)
         measure(CHECK);
         measure(WRITE);
         measure(NEEDS);
+        measure(PAGE);
         plan[at] = kept;
     }
     if (measure(WRITE) != plan_len) {
@@ -290,6 +298,12 @@ static void on_this_plan(uint32_t expected, size_t legs)
     }
     if (measure(NEEDS) != n * m + 1) {
         fprintf(stderr, "stack: a plan has not n * m + 1 needs\n");
+        exit(2);
+    }
+    for (i = lines = 0; i < n * m + 1; i++)
+        lines += needs[i] != GAWHERINO_UNMEASURED;
+    if (measure(PAGE) != 0 || length[0] != GAWHERINO_PAGE_LINE * lines) {
+        fprintf(stderr, "stack: a page has not a line for each need\n");
         exit(2);
     }
     measure(COUNT);

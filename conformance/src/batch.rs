@@ -4,10 +4,11 @@
 use crate::cases::Case;
 use crate::families::Draft;
 use crate::forms::plan::length;
-use crate::forms::{evidence, letters, max_look_ahead, needs, record, table};
+use crate::forms::{evidence, letters, max_look_ahead, needs, page, record, table};
 use crate::forms::{COUNTS, LENGTH, NEXT, POSITION, REFUSED, STARTS, VERDICT};
 use crate::random::{bytes, claims, plans, records, tables, walks, Random};
 use crate::reference::lookahead::look_ahead;
+use crate::reference::page::page as page_of;
 use crate::reference::plan::{read, Plan, Read};
 use crate::reference::record::{feed, Record};
 use crate::reference::table::{plan_of, table_of};
@@ -38,6 +39,7 @@ fn plan_calls(r: &mut Random, plan: &[u8], drawn: &Draft) -> Vec<Case> {
         Case::check(plan, [STARTS, 0, 0, 1, 0, 1].as_slice(), [0u8].as_slice()),
         Case::write(plan, lend(length(drawn.starts.len(), drawn.lines.len()))),
         Case::needs(plan, lend(needs::length(n, m))),
+        Case::page(plan, lend(page::most(n, m)), lend(LENGTH)),
     ]
 }
 
@@ -76,6 +78,21 @@ fn needed(r: &mut Random, drawn: &Draft) -> Vec<Case> {
         let any = r.below(needed);
         let more = needed + r.among(1, 20);
         cases.push(Case::needs(&bytes, r.pick(&[needed - 1, needed, needed, more, more, any, 0])));
+    }
+    cases
+}
+
+/// A page, into buffers around what it needs; an empty one needs nothing. If the reference refuses the plan, let the comparison tell.
+fn paged(r: &mut Random, drawn: &Draft) -> Vec<Case> {
+    let plan = plans::to_page(r, drawn);
+    let bytes = bytes::layout(r, &plan);
+    let needed = read(&bytes).map_or(0, |read| page_of(&read.plan).len());
+    let mut cases = Vec::new();
+    for _ in 0..2 {
+        let any = r.below(needed + 1);
+        let more = needed + r.among(1, 100);
+        let room = r.pick(&[needed.saturating_sub(1), needed, needed, more, more, any, 0]);
+        cases.push(Case::page(&bytes, room, lend(r, LENGTH)));
     }
     cases
 }
@@ -186,6 +203,7 @@ pub fn batch(r: &mut Random) -> (Vec<u8>, Vec<Case>) {
     }
     cases.extend(written(r, &draft));
     cases.extend(needed(r, &draft));
+    cases.extend(paged(r, &draft));
     cases.push(Case::Together(Together { plan: bytes.clone() }));
     // claims: true ones with others near to them, those that would be true if every set counted, and any
     let mut claims = vec![claims::any(r, &plan), claims::any(r, &plan)];

@@ -4,12 +4,13 @@
 use crate::cases::{Call, Outcome};
 use crate::forms::plan::{length, number, E, HEADER, LINE, LINES_AT, M, N, P, STARTS_AT, TOTAL};
 use crate::forms::record::{legs, BOOKED};
-use crate::forms::{max_look_ahead, needs, table, GROUPS, MAX_CODES, MAX_LINES, MAX_STAKES, NOTHING, REFUSED, STARTS};
+use crate::forms::{max_look_ahead, needs, page, table, GROUPS, MAX_CODES, MAX_LINES, MAX_STAKES, NOTHING, REFUSED, STARTS};
 use crate::reference::claim::holds_of_any_set;
-use crate::reference::lookahead::{least, look_ahead};
+use crate::reference::lookahead::{least, look_ahead, needs as needs_of};
 use crate::reference::plan::{read, Name, Plan};
 use crate::reference::table::plan_of;
 use crate::reference::{size, Stakes};
+use std::ops::RangeInclusive;
 
 /// The class of a count.
 pub fn count_class(k: u32) -> &'static str {
@@ -31,6 +32,8 @@ pub fn met(call: &Call, outcome: &Outcome, why: &str) -> Vec<String> {
         ("write", Some(9)) => too_short(form_of(call.slice("plan")), outcome.left.slice::<u8>("out").len()),
         ("needs", None) => numbered(&plan_given(call), outcome.left.slice("needs"), outcome.reply as usize),
         ("needs", Some(9)) => too_short(numbers_of(call.slice("plan")), outcome.left.slice::<u16>("needs").len()),
+        ("page", None) => paged(&plan_given(call), outcome.left.slice::<u8>("page").len()),
+        ("page", Some(9)) if why == "page" => too_short(page_of(call.slice("plan")), outcome.left.slice::<u8>("page").len()),
         ("prepare" | "look_ahead" | "count", None | Some(15)) => narrowed(&plan_given(call), outcome.reply),
         ("check", None) => claimed(&plan_given(call), call.slice("claim"), call.slice("letters")),
         ("step", None) => stepped(call, outcome.left.slice("next")[0]),
@@ -82,7 +85,30 @@ fn numbers_of(plan: &[u8]) -> usize {
     needs::length(number(plan, N), number(plan, M))
 }
 
-/// Of a plan that was refused with 9 where its form or its numbers were to be written: by how much.
+/// A set that has a line on a page: its place among the numbers, its name, number and size.
+struct PageLine {
+    place: usize,
+    name: Name,
+    need: u16,
+    stakes: usize,
+}
+
+/// The lines of a plan's page, in their order.
+fn lines_of(plan: &Plan) -> Vec<PageLine> {
+    let numbers = needs_of(plan);
+    let line = |(name, set): (Name, Stakes)| {
+        let place = if name.0 == STARTS { needs::STARTS } else { needs::FORKS + name.0 as usize * plan.m + name.1 as usize };
+        PageLine { place, name, need: numbers[place], stakes: size(&set) }
+    };
+    plan.every_set().into_iter().map(line).filter(|line| line.need != needs::UNMEASURED).collect()
+}
+
+/// How many bytes the page of a plan has, if it has one.
+fn page_of(plan: &[u8]) -> usize {
+    read(plan).map_or(0, |read| page::LINE * lines_of(&read.plan).len())
+}
+
+/// Of a plan that was refused with 9 where its form, its numbers or its page were to be written: by how much.
 fn too_short(needed: usize, lent: usize) -> Vec<&'static str> {
     applying(&[("9: short by one", lent + 1 == needed), ("9: nothing lent", lent == 0)])
 }
@@ -166,6 +192,50 @@ fn numbered(plan: &Plan, lent: &[u16], written: usize) -> Vec<&'static str> {
     ])
 }
 
+/// W-206, of a page: what stands in its lines, and how much was lent.
+fn paged(plan: &Plan, lent: usize) -> Vec<&'static str> {
+    let lines = lines_of(plan);
+    let length = page::LINE * lines.len();
+    let (starts, forks): (Vec<&PageLine>, Vec<&PageLine>) = lines.iter().partition(|line| line.name.0 == STARTS);
+    let need = |needs: RangeInclusive<u16>| lines.iter().any(|line| needs.contains(&line.need));
+    let bar = |stakes: RangeInclusive<usize>| forks.iter().any(|line| stakes.contains(&line.stakes));
+    let (stake, code) = (|line: &&PageLine| line.name.0 > 9, |line: &&PageLine| line.name.1 > 9);
+    let dash = || need(needs::ENDLESS..=needs::ENDLESS);
+    let last = needs::length(plan.n, plan.m) - 1;
+    let is_largest = plan.n == MAX_STAKES && plan.m == MAX_CODES;
+    applying(&[
+        ("a need of 0", need(0..=0)),
+        ("a need of one digit", need(1..=9)),
+        ("a need of two digits", need(10..=99)),
+        ("a need of three digits", need(100..=999)),
+        ("a need of four digits", need(1000..=9999)),
+        ("a dash", dash()),
+        ("a dash and a need of 1 or more", dash() && need(1..=9999)),
+        ("a bar for 1 stake", bar(1..=1)),
+        ("a bar for 2 stakes", bar(2..=2)),
+        ("a bar for 22 stakes", bar(22..=22)),
+        ("a bar for 23 stakes", bar(23..=23)),
+        ("a bar for 24 stakes", bar(24..=24)),
+        ("a bar for 25 stakes or more", bar(25..=MAX_STAKES)),
+        ("starts of 23 stakes", starts.iter().any(|line| line.stakes == 23)),
+        ("starts of 24 stakes or more", starts.iter().any(|line| line.stakes > 23)),
+        ("starts with a dash", starts.iter().any(|line| line.need == needs::ENDLESS)),
+        ("a stake of one digit", forks.iter().any(|line| !stake(line))),
+        ("a stake of two digits", forks.iter().any(stake)),
+        ("a code of one digit", forks.iter().any(|line| !code(line))),
+        ("a code of two digits", forks.iter().any(code)),
+        ("sets without a line between lines", lines.windows(2).any(|pair| pair[0].place + 1 < pair[1].place)),
+        ("no starts, but lines", size(&plan.starts) == 0 && plan.lines.iter().any(|lines| !lines.is_empty())),
+        ("64 stakes and 32 codes, the last fork with a line", is_largest && lines.last().is_some_and(|line| line.place == last)),
+        ("2,049 lines", lines.len() == 2049),
+        ("room for the page alone", lent == length && length > 0),
+        ("room for none, and none needed", lent == 0),
+        ("more room", lent > length),
+        ("more room for an empty page", lent > length && length == 0),
+        ("less room than for every set", lent < page::most(plan.n, plan.m)),
+    ])
+}
+
 /// W-204, of a step: what it was taken from, and what it led to.
 fn stepped(call: &Call, next: u64) -> Vec<&'static str> {
     let table: &[u64] = call.slice("table");
@@ -237,6 +307,11 @@ fn class(Outcome { reply, left }: &Outcome, why: &str) -> String {
                 _ => "several endless sets among others",
             }
         }
+        "page" => match left.slice::<u64>("length").first().map(|length| *length as usize / page::LINE) {
+            None | Some(0) => "empty",
+            Some(1) => "of one line",
+            _ => "of several lines",
+        },
         "step" => match (reply, left.slice::<u64>("next")[0].count_ones()) {
             (0, _) => "from the empty set",
             (_, 0) => "to nowhere",
@@ -345,6 +420,14 @@ const CLASSES: &[(&str, &[&[&str]])] = &[
     ("needs", &[&["an abandoned fork of several stakes", "a set that counts under one name and not under another"]]),
     ("needs", &[&["no starts, but lines", "n(n-1)/2 of three or more stakes", "room for the numbers alone", "more room"]]),
     ("needs", &[&["64 stakes and 32 codes", "64 stakes and 32 codes, the last fork with 1 or more"]]),
+    ("page", &[PLAN, &["9: page", "9: short by one", "9: nothing lent", "9: length", "empty", "of one line", "of several lines"]]),
+    ("page", &[&["a need of 0", "a need of one digit", "a need of two digits", "a need of three digits", "a need of four digits"]]),
+    ("page", &[&["a dash", "a dash and a need of 1 or more", "starts with a dash", "sets without a line between lines"]]),
+    ("page", &[&["a bar for 1 stake", "a bar for 2 stakes", "a bar for 22 stakes", "a bar for 23 stakes", "a bar for 24 stakes"]]),
+    ("page", &[&["a bar for 25 stakes or more", "starts of 23 stakes", "starts of 24 stakes or more", "no starts, but lines"]]),
+    ("page", &[&["a stake of one digit", "a stake of two digits", "a code of one digit", "a code of two digits", "2,049 lines"]]),
+    ("page", &[&["64 stakes and 32 codes, the last fork with a line", "room for the page alone", "room for none, and none needed"]]),
+    ("page", &[&["more room", "more room for an empty page", "less room than for every set"]]),
     ("step", &[TABLE, &["9: next", "12: the code not below m", "12: the code above 255", "12: the set's bit n or higher"]]),
     ("step", &[&["12: the code alone, m itself", "12: bit n alone", "12: a stake and bit n", "12: a bit above n"]]),
     ("step", &[&["from the empty set", "to nowhere", "from one stake", "from several stakes to as many"]]),

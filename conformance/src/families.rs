@@ -83,6 +83,17 @@ pub fn odometer(i: usize, j: usize) -> Draft {
     draft(i + j, 4, &[x(0), y(0)], &lines)
 }
 
+/// The same with forks into the midst of the count: code 2 leads from x a to the x and the y of `places[a]`, x × j + y codes on, so that
+/// the fork's own number is i × j - (x × j + y).
+pub fn odometer_from(i: usize, j: usize, places: &[(usize, usize)]) -> Draft {
+    let mut plan = odometer(i, j);
+    plan.lines.retain(|&(from, code, _)| code != 2 || from as usize >= places.len());
+    for (a, &(x, y)) in places.iter().enumerate() {
+        plan.lines.extend([(a as u8, 2, x as u8), (a as u8, 2, (i + y) as u8)]);
+    }
+    plan
+}
+
 /// One code: a stake with a loop and a line to a chain of the other stakes. k = n-1 for n of 2 or more (Proposition 6, Fig. 10).
 pub fn unary_chain(n: usize) -> Draft {
     let mut lines = vec![(0, 0, 0)];

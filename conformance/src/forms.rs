@@ -19,7 +19,7 @@ pub const MAX_LEGS: u32 = 1_000_000;
 pub const COUNTS: usize = 3;
 pub const VERDICT: usize = 2;
 pub const POSITION: usize = 1;
-/// How many numbers a whole walk's length is.
+/// How many numbers the length of a whole walk, or of a page, is.
 pub const LENGTH: usize = 1;
 /// How many numbers the set is that a step leads to.
 pub const NEXT: usize = 1;
@@ -125,6 +125,19 @@ pub mod needs {
 
     pub const fn length(n: usize, m: usize) -> usize {
         FORKS + n * m
+    }
+}
+
+/// The page of these numbers (W-206).
+pub mod page {
+    use super::needs;
+
+    /// The bytes of a line, its line feed among them.
+    pub const LINE: usize = 41;
+
+    /// The bytes of a page on which every set has a line.
+    pub const fn most(n: usize, m: usize) -> usize {
+        LINE * needs::length(n, m)
     }
 }
 

@@ -2,12 +2,14 @@
 //! and tables.
 
 use crate::calls::Calls;
-use crate::cases::Case;
+use crate::cases::{Call, Case};
 use crate::families::{draft, Draft, Line};
 use crate::forms::plan::{number, set_number, E, EDITION, HEADER, LINE, LINES_AT, M, N, P, STARTS_AT, TOTAL};
 use crate::forms::table::K;
 use crate::forms::MAX_STAKES;
 use crate::lent::{Element, Given};
+use crate::reference::page::page;
+use crate::reference::plan::read;
 use crate::session::Session;
 use crate::together::Together;
 use crate::waiting::Waiting;
@@ -74,6 +76,11 @@ fn forks(plan: &[u8]) -> usize {
     number(plan, N) * number(plan, M)
 }
 
+/// The bytes of a plan's page, none if it has no page.
+fn page_length(plan: &[u8]) -> usize {
+    read(plan).map_or(0, |read| page(&read.plan).len())
+}
+
 /// Smaller sets: the empty one, and all but the lowest stake.
 fn smaller_sets(set: u64) -> Vec<u64> {
     let mut sets = vec![0, set & set.wrapping_sub(1)];
@@ -117,45 +124,57 @@ fn smaller_given(name: &str, given: &Given) -> Vec<Given> {
     }
 }
 
-fn smaller(case: &Case) -> Vec<Case> {
-    match case {
-        Case::Call(call) => {
-            let mut cases = Vec::new();
-            // the last parameter first: a word before its plan or table
-            for (place, parameter) in call.what.parameters.iter().enumerate().rev() {
-                for given in smaller_given(parameter.name, &call.given[place]) {
-                    let mut other = call.clone();
-                    other.given[place] = given;
-                    cases.push(Case::Call(other.clone()));
-                    // and with so much less room too, for what is written of it, or for a number of each fork
-                    if let (Given::U8(before), Given::U8(now)) = (&call.given[place], &other.given[place]) {
-                        let forks = if parameter.name == "plan" { forks(before).saturating_sub(forks(now)) } else { 0 };
-                        for fewer in [before.len() - now.len(), forks].into_iter().filter(|&fewer| fewer > 0) {
-                            let mut less = other.clone();
-                            for given in &mut less.given {
-                                if let Given::Room(length) = given {
-                                    *length = length.saturating_sub(fewer);
-                                }
-                            }
-                            cases.push(Case::Call(less));
-                        }
-                    }
+/// The call with something smaller in one place; and with so much less room too, for what is written of it, or for a number of each fork,
+/// or for the lines of a page.
+fn with_smaller(call: &Call, place: usize, given: Given) -> Vec<Case> {
+    let mut other = call.clone();
+    other.given[place] = given;
+    let mut cases = vec![Case::Call(other.clone())];
+    let parameters = call.what.parameters;
+    if let (Given::U8(before), Given::U8(now)) = (&call.given[place], &other.given[place]) {
+        let fewer = |size: fn(&[u8]) -> usize| size(before).saturating_sub(size(now));
+        let fewer = match (call.what.name, parameters[place].name) {
+            ("page", _) => [fewer(page_length), 0],
+            (_, "plan") => [fewer(<[u8]>::len), fewer(forks)],
+            _ => [fewer(<[u8]>::len), 0],
+        };
+        for fewer in fewer.into_iter().filter(|&fewer| fewer > 0) {
+            let mut less = other.clone();
+            for (given, parameter) in less.given.iter_mut().zip(parameters) {
+                match given {
+                    Given::Room(room) if parameter.name != "length" => *room = room.saturating_sub(fewer),
+                    _ => {}
                 }
             }
-            cases
+            cases.push(Case::Call(less));
+        }
+    }
+    cases
+}
+
+/// Smaller cases, each made only when it is asked for.
+fn smaller(case: &Case) -> Box<dyn Iterator<Item = Case> + '_> {
+    match case {
+        Case::Call(call) => {
+            // the last parameter first: a word before its plan or table
+            let places = call.what.parameters.iter().enumerate().rev();
+            Box::new(places.flat_map(move |(place, parameter)| {
+                let smaller = smaller_given(parameter.name, &call.given[place]).into_iter();
+                smaller.flat_map(move |given| with_smaller(call, place, given))
+            }))
         }
         Case::Session(session) => {
             let legs = without_a_piece(&session.legs).into_iter().map(|legs| Session { legs, ..session.clone() });
             let plans = smaller_plans(&session.plan).into_iter().map(|plan| Session { plan, ..session.clone() });
             let fitting = (session.extra > 0).then(|| Session { extra: 0, ..session.clone() });
-            legs.chain(plans).chain(fitting).map(Case::Session).collect()
+            Box::new(legs.chain(plans).chain(fitting).map(Case::Session))
         }
         Case::Waiting(waiting) => {
             let walks = smaller_numbers(waiting.beyond).map(|beyond| Waiting { beyond, ..waiting.clone() });
             let plans = smaller_plans(&waiting.plan).into_iter().map(|plan| Waiting { plan, ..waiting.clone() });
-            walks.chain(plans).map(Case::Waiting).collect()
+            Box::new(walks.chain(plans).map(Case::Waiting))
         }
-        Case::Together(together) => smaller_plans(&together.plan).into_iter().map(|plan| Case::Together(Together { plan })).collect(),
+        Case::Together(together) => Box::new(smaller_plans(&together.plan).into_iter().map(|plan| Case::Together(Together { plan }))),
     }
 }
 
@@ -164,17 +183,13 @@ pub fn smallest(case: &Case, subject: &dyn Calls, message: String) -> (Case, Str
     let (mut case, mut message) = (case.clone(), message);
     let seconds = std::env::var("GAWHERINO_SHRINK").ok().and_then(|text| text.parse().ok()).unwrap_or(10);
     let end = Instant::now() + Duration::from_secs(seconds);
-    'again: loop {
-        for other in smaller(&case) {
-            if Instant::now() > end {
-                return (case, message);
-            }
-            if let Err(found) = other.compare(subject) {
-                (case, message) = (other, found);
-                continue 'again;
-            }
+    let fails = |other: Case| other.compare(subject).err().map(|found| (other, found));
+    loop {
+        let smaller = smaller(&case).take_while(|_| Instant::now() <= end).find_map(fails);
+        match smaller {
+            Some(found) => (case, message) = found,
+            None => return (case, message),
         }
-        return (case, message);
     }
 }
 

@@ -7,6 +7,7 @@ use conformance::random::{bytes, claims, plans, Random};
 use conformance::reference::claim;
 use conformance::reference::doubt::in_doubt;
 use conformance::reference::lookahead::{entry, largest, least, look_ahead, needs};
+use conformance::reference::page::page;
 use conformance::reference::plan::{one_form, read, Plan};
 use conformance::reference::record::{feed, Record};
 use conformance::reference::walk::{possible, reach, step_from, verdict, whole_walk};
@@ -135,6 +136,59 @@ fn the_number_of_each_set_by_itself() {
     println!("plans with a number of 1 or more beside an endless set: {beside}; with several endless sets: {several}");
     assert!(none > 1000 && empty > 1000 && abandoned > 500 && beside > 100 && several > 100);
     assert!(found[..4].iter().all(|&count| count > 50) && found[4] > 0);
+}
+
+/// W-206 column by column, on tiny plans and on such as have wide sets and long needs. The numbers are those of W-205, which are counted
+/// above word by word.
+#[test]
+fn the_page_column_by_column() {
+    let seed = common::seed();
+    let drawn = (0..2000).map(|number| {
+        let mut r = Random::new(seed ^ 0x206, number);
+        let plan = plans::plan(&mut r);
+        let plan = plans::to_page(&mut r, &plan);
+        (number, read(&bytes::layout(&mut r, &plan)).expect("sound").plan)
+    });
+    // "right-aligned": the digit that stands so many columns before the last, or a blank
+    let digit = |number: usize, before_last: usize| match number / 10usize.pow(before_last as u32) {
+        0 if before_last > 0 => ' ',
+        rest => (b'0' + (rest % 10) as u8) as char,
+    };
+    let (mut longest, mut cut, mut dashes) = ([0; 4], 0, 0);
+    for (number, plan) in tiny_plans(1000).map(|(number, _, plan)| (number, plan)).chain(drawn) {
+        // "in the order of W-205"; "Sets marked 65,534 have no line"
+        let mut names = vec![(255, 0)];
+        names.extend((0..plan.n).flat_map(|stake| (0..plan.m).map(move |code| (stake, code))));
+        let mut lines: Vec<((usize, usize), u16)> = names.into_iter().zip(needs(&plan)).collect();
+        lines.retain(|line| line.1 != 65_534);
+        let page: Vec<char> = page(&plan).chars().collect();
+        assert_eq!(page.len(), 41 * lines.len(), "case {number}: {plan:?}");
+        for (characters, ((stake, code), need)) in page.chunks(41).zip(lines) {
+            let is_starts = (stake, code) == (255, 0);
+            let is_in = |&to: &usize| if is_starts { plan.starts[to] } else { plan.lines[code].contains(&(stake, to)) };
+            let stakes = (0..plan.n).filter(is_in).count();
+            for (column, &character) in (1..).zip(characters) {
+                let expected = match column {
+                    1..=4 if is_starts => b"from"[column - 1] as char,
+                    1..=4 => digit(stake, 4 - column),
+                    6..=9 if !is_starts => digit(code, 9 - column),
+                    11..=16 if need != 65_535 => digit(need as usize, 16 - column),
+                    16 => '-',
+                    18..=40 if column - 17 <= stakes => '#',
+                    41 => '\n',
+                    _ => ' ',
+                };
+                assert_eq!(character, expected, "case {number}: column {column} of {characters:?}, {plan:?}");
+            }
+            match need {
+                65_535 => dashes += 1,
+                _ => longest[need.max(1).ilog10() as usize] += 1,
+            }
+            cut += (stakes > 23) as u32;
+        }
+    }
+    println!("lines with needs of 1, 2, 3 and 4 digits: {longest:?}; with a dash: {dashes}; with a bar that is cut: {cut}");
+    assert!(longest.iter().all(|&count| count > 50) && dashes > 1000 && cut > 100);
 }
 
 /// W-203 with walks written out, as the codes before a position and those behind it. The possible stakes there are those that the first

@@ -5,7 +5,7 @@ mod common;
 
 use conformance::calls::{Calls, CALLS};
 use conformance::cases::Case;
-use conformance::families::{all_pairs, draft, odometer, theorem_5, unary_chain, Draft, Line};
+use conformance::families::{all_pairs, draft, odometer, odometer_from, theorem_5, unary_chain, Draft, Line};
 use conformance::forms::plan::header;
 use conformance::forms::*;
 use conformance::lent::{pattern, Kind, Parameter};
@@ -38,6 +38,7 @@ fn counted(calls: &dyn Calls, plan: &Draft, expected: Result<u32, u32>, name: &s
         Case::count(&bytes),
         Case::Waiting(Waiting { plan: bytes.clone(), seed: common::seed(), beyond: 3 }),
         Case::needs(&bytes, needs::length(n, m) + 1),
+        Case::page(&bytes, page::most(n, m) + 1, LENGTH + 1),
         Case::Together(Together { plan: bytes.clone() }),
     ] {
         case.compare(calls).unwrap_or_else(|message| fail(&case, calls, message, name));
@@ -259,6 +260,8 @@ fn numbers_of_the_header() {
         ("MAX_NEEDS", needs::length(MAX_STAKES, MAX_CODES)),
         ("ENDLESS", needs::ENDLESS as usize),
         ("UNMEASURED", needs::UNMEASURED as usize),
+        ("MAX_PAGE", page::most(MAX_STAKES, MAX_CODES)),
+        ("PAGE_LINE", page::LINE),
         ("MAX_LEGS", MAX_LEGS as usize),
         ("REFUSED", REFUSED as usize),
         ("NOTHING", NOTHING as usize),
@@ -588,6 +591,7 @@ fn sizes_that_are_only_run() {
             Case::check(&many, [STARTS, 0, 0, 1, 0, 1].as_slice(), [0u8].as_slice()),
             Case::write(&many, plan::length(1, 4097)),
             Case::needs(&many, needs::length(64, 4)),
+            Case::page(&many, page::most(64, 4), LENGTH),
         ] {
             case.compare(calls).unwrap_or_else(|message| fail(&case, calls, message, "e 4,097"));
         }
@@ -1201,6 +1205,319 @@ fn plans_that_have_no_numbers() {
                 let mut numbers: Vec<u16> = pattern(lent);
                 assert_eq!(calls.needs(plan, &mut numbers), REFUSED + number, "{plan:?} into {lent} by {}", calls.name());
                 assert_eq!(numbers, pattern::<u16>(lent), "{plan:?} by {}", calls.name());
+            }
+        }
+    }
+}
+
+/// A plan's page, or the refusal, with so much lent for the page and for its length; the rest is kept, and a refused call writes nothing.
+fn paged(calls: &dyn Calls, plan: &[u8], lent: usize, for_length: usize) -> Result<String, u32> {
+    let (mut page, mut length): (Vec<u8>, Vec<u64>) = (pattern(lent), pattern(for_length));
+    let reply = calls.page(plan, &mut page, &mut length);
+    let (bytes, numbers) = if reply < REFUSED { (length[0] as usize, 1) } else { (0, 0) };
+    assert_eq!(page[bytes..], pattern::<u8>(lent)[bytes..], "the rest by {}", calls.name());
+    assert_eq!(length[numbers..], pattern::<u64>(for_length)[numbers..], "the rest by {}", calls.name());
+    if reply >= REFUSED {
+        return Err(reply - REFUSED);
+    }
+    assert_eq!(reply, 0, "by {}", calls.name());
+    page.truncate(bytes);
+    Ok(String::from_utf8(page).expect("a page is text"))
+}
+
+/// W-206 of one plan, however it is drawn: the page of these lines, "40 characters and a line feed" each, into as many bytes and into more;
+/// "A short buffer is refused with 9", and so is a length without a place.
+fn hung(calls: &dyn Calls, plan: &Draft, lines: &[&str], name: &str) {
+    assert!(lines.iter().all(|line| line.len() == 40 && line.is_ascii()), "{name}: {lines:?}");
+    let expected: String = lines.iter().flat_map(|line| [line, "\n"]).collect();
+    let needed = 41 * lines.len();
+    assert_eq!(expected.len(), needed, "{name}");
+    let drawn = if plan.lines.len() < 100 { drawn_otherwise(plan) } else { vec![plan.bytes(), plan.laid_out(true, [1, 2, 3])] };
+    for bytes in drawn {
+        for (lent, for_length) in [(needed, 1), (needed + 1, 1), (needed, 2), (needed + 41, 3)] {
+            let page = paged(calls, &bytes, lent, for_length);
+            assert!(page.as_ref() == Ok(&expected), "{name} into {lent} by {}:\n{expected}\n{}", calls.name(), page.unwrap_or_default());
+        }
+        for lent in [0, 1, 16, 40, 41, 42, needed / 2, needed.saturating_sub(41), needed.saturating_sub(1)] {
+            let is_short = lent < needed;
+            for for_length in if is_short { 0..3 } else { 0..1 } {
+                assert_eq!(paged(calls, &bytes, lent, for_length), Err(9), "{name} into {lent} and {for_length} by {}", calls.name());
+            }
+        }
+    }
+    assert!(paged(calls, &plan.bytes(), 84_009, 1) == Ok(expected), "{name} by {}", calls.name());
+    assert_eq!(paged(calls, &plan.bytes(), 84_009, 0), Err(9), "{name} by {}", calls.name());
+    let case = Case::page(&plan.bytes(), needed, LENGTH);
+    case.compare(calls).unwrap_or_else(|message| fail(&case, calls, message, name));
+}
+
+/// W-206 on plans A to H, with the numbers of W-205: "right-aligned, stake in columns 1 to 4, code in 6 to 9, need in 11 to 16, a dash in
+/// column 16 for 65,535, then the fork's stakes as a bar from column 18 .. unused columns are blanks. The starts' line has the word `from`
+/// in columns 1 to 4 and a blank code. Sets marked 65,534 have no line."
+#[test]
+fn pages_of_plans_a_to_h() {
+    let rows: [(&str, &[&str]); 8] = [
+        (
+            "A",
+            &[
+                "from           0 #                      ",
+                "   0    0      0 #                      ",
+                "   1    0      1 ##                     ",
+            ],
+        ),
+        // no look-ahead, but a page
+        (
+            "B",
+            &[
+                "from           0 #                      ",
+                "   0    0      - ##                     ",
+                "   1    0      0 #                      ",
+            ],
+        ),
+        (
+            "C",
+            &[
+                "from           3 ##                     ",
+                "   0    0      0 #                      ",
+                "   1    0      0 #                      ",
+                "   2    1      0 #                      ",
+            ],
+        ),
+        // the forks of 1 and of 2 have no line, since no walk reaches them
+        ("D", &["from           0 #                      ", "   0    0      0 #                      "]),
+        // an empty page
+        ("E", &[]),
+        ("F", &["from           1 ##                     "]),
+        (
+            "G",
+            &[
+                "from           3 ##                     ",
+                "   0    0      0 #                      ",
+                "   1    0      0 #                      ",
+                "   1    1      0 #                      ",
+                "   2    1      0 #                      ",
+            ],
+        ),
+        (
+            "H",
+            &[
+                "from           - ##                     ",
+                "   0    0      0 #                      ",
+                "   1    0      0 #                      ",
+                "   2    1      0 #                      ",
+                "   3    1      0 #                      ",
+            ],
+        ),
+    ];
+    for calls in common::everyone() {
+        for ((name, lines), (listed, plan, _)) in rows.iter().zip(listed()) {
+            assert_eq!(*name, listed);
+            hung(calls, &plan, lines, name);
+            // without starts no set counts
+            hung(calls, &Draft { starts: vec![], ..plan }, &[], &format!("{name} without starts"));
+        }
+    }
+}
+
+/// W-206: "up to 23 hash signs, one for each stake, cut at 23", for forks and for the starts.
+#[test]
+fn bars_of_1_to_64_stakes() {
+    // from 0 by each code as many stakes, of which 0 alone has lines, so that any two share the empty word alone
+    let sizes = [1, 2, 21, 22, 23, 24, 25, 63, 64];
+    let lines: Vec<Line> = (0u8..).zip(sizes).flat_map(|(code, size)| (0..size).map(move |to| (0, code, 63 - to))).collect();
+    let of_forks = [
+        "from           0 #                      ",
+        "   0    0      0 #                      ",
+        "   0    1      1 ##                     ",
+        "   0    2      1 #####################  ",
+        "   0    3      1 ###################### ",
+        "   0    4      1 #######################",
+        "   0    5      1 #######################",
+        "   0    6      1 #######################",
+        "   0    7      1 #######################",
+        "   0    8      1 #######################",
+    ];
+    // the starts alone
+    let of_starts = [
+        (1, "from           0 #                      "),
+        (2, "from           1 ##                     "),
+        (21, "from           1 #####################  "),
+        (22, "from           1 ###################### "),
+        (23, "from           1 #######################"),
+        (24, "from           1 #######################"),
+        (25, "from           1 #######################"),
+        (64, "from           1 #######################"),
+    ];
+    // all stakes go on for ever with code 0
+    let every: Vec<Line> = (0..24).flat_map(|from| (0..24).map(move |to| (from, 0, to))).collect();
+    let endless: Vec<String> = (0..24).map(|stake| format!("{stake:>4}    0      - #######################")).collect();
+    let endless: Vec<&str> = endless.iter().map(String::as_str).collect();
+    assert_eq!((endless[0], endless[23]), ("   0    0      - #######################", "  23    0      - #######################"));
+    for calls in common::everyone() {
+        hung(calls, &draft(64, 9, &[0], &lines), &of_forks, "forks of 1 to 64 stakes");
+        for (size, line) in of_starts {
+            hung(calls, &draft(64, 2, &(0..size).collect::<Vec<u8>>(), &[]), &[line], &format!("{size} starts"));
+        }
+        let from = "from           - #######################";
+        hung(calls, &draft(24, 1, &(0..24).collect::<Vec<u8>>(), &every), &[&[from], endless.as_slice()].concat(), "all endless");
+    }
+}
+
+/// W-206, numbers of two digits and more: stakes and codes here, and needs of two digits, by the numbers of Proposition 6 and Theorem 5.
+#[test]
+fn stakes_codes_and_needs_of_two_digits() {
+    // one code, and "k = n - 1": 0 leads to {0,1}, and each other stake but the last to the next
+    let chain = [
+        "from           0 #                      ",
+        "   0    0     11 ##                     ",
+        "   1    0      0 #                      ",
+        "   2    0      0 #                      ",
+        "   3    0      0 #                      ",
+        "   4    0      0 #                      ",
+        "   5    0      0 #                      ",
+        "   6    0      0 #                      ",
+        "   7    0      0 #                      ",
+        "   8    0      0 #                      ",
+        "   9    0      0 #                      ",
+        "  10    0      0 #                      ",
+    ];
+    // five stakes and ten codes: 0 leads by 0 to {0,1}, which share nine codes, by which they go through all the pairs
+    let pairs = [
+        "from           0 #                      ",
+        "   0    0     10 ##                     ",
+        "   0    1      0 #                      ",
+        "   0    2      0 #                      ",
+        "   0    3      0 #                      ",
+        "   0    4      0 #                      ",
+        "   1    1      0 #                      ",
+        "   1    5      0 #                      ",
+        "   1    6      0 #                      ",
+        "   1    7      0 #                      ",
+        "   2    2      0 #                      ",
+        "   2    5      0 #                      ",
+        "   2    8      0 #                      ",
+        "   2    9      0 #                      ",
+        "   3    3      0 #                      ",
+        "   3    6      0 #                      ",
+        "   3    8      0 #                      ",
+        "   4    4      0 #                      ",
+        "   4    7      0 #                      ",
+        "   4    9      0 #                      ",
+    ];
+    // the first fork, {63}, and the last, {0,1}, of which 1 has no line; between them no set has a line
+    let ends = [
+        "from           0 #                      ",
+        "   0    0      0 #                      ",
+        "  63   31      1 ##                     ",
+    ];
+    // nines and tens; no walk reaches 11
+    let tens = draft(12, 11, &[9, 10], &[(9, 9, 10), (9, 10, 9), (9, 10, 10), (10, 10, 9), (11, 10, 9), (11, 10, 10)]);
+    let of_tens = [
+        "from           - ##                     ",
+        "   9    9      0 #                      ",
+        "   9   10      - ##                     ",
+        "  10   10      0 #                      ",
+    ];
+    for calls in common::everyone() {
+        hung(calls, &unary_chain(12), &chain, "Proposition 6");
+        hung(calls, &theorem_5(5, &all_pairs(5)), &pairs, "Theorem 5");
+        hung(calls, &draft(64, 32, &[0], &[(0, 0, 63), (63, 31, 0), (63, 31, 1)]), &ends, "the first fork and the last");
+        hung(calls, &tens, &of_tens, "nines and tens");
+    }
+}
+
+/// W-206, needs of one to four digits: two counters, whose forks by code 2 lead into the midst of the count. From x and y there is left of
+/// 1,024, "Remark 7's number", what 32 × x + y leaves of it.
+#[test]
+fn needs_of_one_to_four_digits() {
+    let left = [1024, 1023, 1001, 1000, 999, 998, 101, 100, 99, 98, 64, 32, 11, 10, 9, 8, 2, 1];
+    let places = left.map(|left: usize| ((1024 - left) / 32, (1024 - left) % 32));
+    let of_forks = [
+        "   0    2   1024 ##                     ",
+        "   1    2   1023 ##                     ",
+        "   2    2   1001 ##                     ",
+        "   3    2   1000 ##                     ",
+        "   4    2    999 ##                     ",
+        "   5    2    998 ##                     ",
+        "   6    2    101 ##                     ",
+        "   7    2    100 ##                     ",
+        "   8    2     99 ##                     ",
+        "   9    2     98 ##                     ",
+        "  10    2     64 ##                     ",
+        "  11    2     32 ##                     ",
+        "  12    2     11 ##                     ",
+        "  13    2     10 ##                     ",
+        "  14    2      9 ##                     ",
+        "  15    2      8 ##                     ",
+        "  16    2      2 ##                     ",
+        "  17    2      1 ##                     ",
+    ];
+    let plan = odometer_from(32, 32, &places);
+    for calls in common::everyone() {
+        let page = paged(calls, &plan.bytes(), 84_009, 1).expect("a page");
+        let lines: Vec<&str> = page.lines().collect();
+        // each stake of x has codes 0, 1 and 2, the last 0 and 2; each of y 0 and 3, the last 1 and 3
+        assert_eq!((page.len(), lines.len()), (41 * 160, 1 + 3 * 32 - 1 + 2 * 32), "by {}", calls.name());
+        assert_eq!(lines[0], "from        1024 ##                     ", "by {}", calls.name());
+        for (a, line) in of_forks.iter().enumerate() {
+            assert_eq!(lines[1 + 3 * a + 2], *line, "by {}", calls.name());
+            assert_eq!(lines[1 + 3 * a][9..], "      0 #                      "[..], "by {}", calls.name());
+        }
+        assert_eq!(lines[1 + 3 * 31], "  31    0      0 #                      ", "by {}", calls.name());
+        assert_eq!(lines[1 + 3 * 31 + 1], "  31    2   1024 ##                     ", "by {}", calls.name());
+        assert_eq!(lines[159], "  63    3   1024 ##                     ", "by {}", calls.name());
+        assert_eq!(paged(calls, &plan.bytes(), 41 * 160 - 1, 1), Err(9), "by {}", calls.name());
+        let case = Case::page(&plan.bytes(), page::LINE * 160, LENGTH);
+        case.compare(calls).unwrap_or_else(|message| fail(&case, calls, message, "needs of one to four digits"));
+    }
+}
+
+/// W-206 at the greatest size: 64 stakes and 32 codes, one line from each stake by each code, and all are reached. 2,049 lines of 41 bytes.
+#[test]
+fn the_largest_page() {
+    let lines: Vec<Line> = (0..64u8).flat_map(|from| (0..32).map(move |code| (from, code, (from + code + 1) % 64))).collect();
+    let plan = draft(64, 32, &[0], &lines).bytes();
+    let some = [
+        (0, "from           0 #                      "),
+        (1, "   0    0      0 #                      "),
+        (2, "   0    1      0 #                      "),
+        (11, "   0   10      0 #                      "),
+        (32, "   0   31      0 #                      "),
+        (33, "   1    0      0 #                      "),
+        (321, "  10    0      0 #                      "),
+        (1024, "  31   31      0 #                      "),
+        (1025, "  32    0      0 #                      "),
+        (2017, "  63    0      0 #                      "),
+        (2048, "  63   31      0 #                      "),
+    ];
+    for calls in common::everyone() {
+        for lent in [84_009, 84_010, 90_000] {
+            let page = paged(calls, &plan, lent, 1).expect("a page");
+            let lines: Vec<&str> = page.lines().collect();
+            assert_eq!((page.len(), lines.len()), (84_009, 2_049), "by {}", calls.name());
+            assert!(
+                page.ends_with('\n') && lines.iter().all(|line| line[9..] == "      0 #                      "[..]),
+                "by {}",
+                calls.name()
+            );
+            for (number, line) in some {
+                assert_eq!(lines[number], line, "line {number} by {}", calls.name());
+            }
+        }
+        for lent in [0, 41, 65_535, 65_536, 83_968, 84_008] {
+            assert_eq!(paged(calls, &plan, lent, 1), Err(9), "into {lent} by {}", calls.name());
+        }
+        assert_eq!(paged(calls, &plan, 84_009, 0), Err(9), "by {}", calls.name());
+    }
+}
+
+/// W-206: "made from the same plan bytes" as W-205's numbers; the lowest of 1 to 7 that applies comes before 9.
+#[test]
+fn plans_that_have_no_page() {
+    for calls in common::everyone() {
+        for (number, plan) in &refused_plans() {
+            for (lent, for_length) in [(0, 0), (0, 1), (40, 1), (41, 0), (200, 0), (200, 2)] {
+                assert_eq!(paged(calls, plan, lent, for_length), Err(*number), "{plan:?} into {lent} by {}", calls.name());
             }
         }
     }

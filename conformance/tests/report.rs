@@ -3,58 +3,18 @@
 
 mod common;
 
-use common::program::{plan_a, ring, started, with_legs, SAMPLE};
+use common::program::{plan_a, refused_inputs, ring, with_legs, REPORT, SAMPLE};
 use conformance::families::{draft, odometer, Draft};
-use conformance::forms::plan::{number, HEADER, TOTAL};
-use conformance::lent::hex;
 use conformance::random::{bytes, plans, walks, Random};
 use conformance::reference::plan::read;
 use conformance::reference::report::report;
-use std::io::Write;
-use std::process::Stdio;
-use std::time::{Duration, Instant};
 
 fn written(input: &[u8]) -> String {
-    let mut child = started(Stdio::piped(), Stdio::piped());
-    let mut stdin = child.stdin.take().expect("is piped");
-    let input = input.to_vec();
-    // the program may stop reading early, after a refusal
-    let writer = std::thread::spawn(move || drop(stdin.write_all(&input)));
-    let output = child.wait_with_output().expect("the report program ends");
-    writer.join().expect("writing does not panic");
-    assert!(output.status.success(), "the report program ended with {}: {}", output.status, String::from_utf8_lossy(&output.stderr));
-    String::from_utf8(output.stdout).expect("the report is text")
+    REPORT.written(input)
 }
 
-/// Compares one input, and on a difference looks for a smaller one by dropping legs.
 fn agree(input: &[u8], origin: &str) {
-    let differs = |input: &[u8]| written(input) != report(input);
-    if !differs(input) {
-        return;
-    }
-    let mut input = input.to_vec();
-    let mut piece = input.len() / 2;
-    let end = Instant::now() + Duration::from_secs(10);
-    while piece > 0 {
-        let mut from = if input.len() >= HEADER { number(&input, TOTAL) } else { 0 };
-        while from + piece <= input.len() && Instant::now() < end {
-            let shorter = [&input[..from], &input[from + piece..]].concat();
-            if differs(&shorter) {
-                input = shorter;
-            } else {
-                from += piece;
-            }
-        }
-        piece /= 2;
-    }
-    let short = |text: String| text.chars().take(3000).collect::<String>();
-    panic!(
-        "\nthe report differs ({origin}); the smallest input found, {} bytes:\n{}\nexpected:\n{}\nwritten:\n{}",
-        input.len(),
-        hex(&input[..input.len().min(3000)]),
-        short(report(&input)),
-        short(written(&input))
-    );
+    REPORT.agree(input, origin);
 }
 
 #[test]
@@ -69,27 +29,13 @@ fn the_sample_of_document_01() {
 
 #[test]
 fn what_document_01_says_of_refusals() {
-    let a = plan_a().bytes();
     // the only line for 1 to 7
-    for input in [&a[..0], &a[..1], &a[..15], &a[..16], &a[..25]] {
-        assert_eq!(written(input), "refused 1 author\n");
+    for (number, input) in refused_inputs() {
+        assert_eq!(written(&input), format!("refused {number} author\n"), "{input:?}");
     }
-    let changed = |place: usize, value: u8| {
-        let mut bytes = a.clone();
-        bytes[place] = value;
-        bytes
-    };
-    assert_eq!(written(&changed(14, 15)), "refused 1 author\n", "a total below 16");
-    assert_eq!(written(&changed(14, 0x1B)), "refused 1 author\n", "fewer bytes than the total");
-    assert_eq!(written(&changed(0, 2)), "refused 2 author\n");
-    assert_eq!(written(&changed(2, 65)), "refused 3 author\n");
-    assert_eq!(written(&changed(10, 15)), "refused 4 author\n");
-    assert_eq!(written(&changed(16, 3)), "refused 5 author\n");
-    assert_eq!(written(&changed(17, 3)), "refused 6 author\n");
-    assert_eq!(written(&changed(25, 1)), "refused 7 author\n");
     // a total of 16 or more that is short of the bytes leaves legs, here one that is off the plan
     assert_eq!(
-        written(&[a.as_slice(), &[9]].concat()),
+        written(&with_legs(&plan_a(), &[9])),
         "stakes 3 codes 1 starts 1 lines 3\nlook-ahead 1\nrefused 12 logger\nopen 0 stakes 0\n"
     );
     // for 15 it replaces line 2 and ends the report

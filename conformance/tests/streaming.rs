@@ -3,9 +3,8 @@
 
 mod common;
 
-use common::program::{plan_a, ring, started, with_legs, SAMPLE};
+use common::program::{pieces, plan_a, refused_inputs, ring, text, with_legs, REPORT, SAMPLE};
 use conformance::families::{draft, odometer};
-use conformance::forms::plan::{number, HEADER, TOTAL};
 use conformance::random::{bytes, plans, walks, Random};
 use conformance::reference::plan::read;
 use conformance::reference::report::report;
@@ -13,64 +12,12 @@ use std::fs::File;
 use std::io::{BufRead, BufReader, Seek, Write};
 use std::os::fd::OwnedFd;
 use std::os::unix::net::UnixDatagram;
-use std::process::{Output, Stdio};
+use std::process::Stdio;
 use std::sync::mpsc;
 use std::time::Duration;
 
-const UNREAD: &str = "report: standard input could not be read\n";
-const UNWRITTEN: &str = "report: standard output could not be written\n";
-
-fn text(bytes: &[u8]) -> String {
-    String::from_utf8_lossy(bytes).into_owned()
-}
-
-fn run(stdin: Stdio, stdout: Stdio) -> Output {
-    started(stdin, stdout).wait_with_output().expect("the report program ends")
-}
-
-/// What the program writes if each of its reads gets one piece: a read of a datagram takes it alone, and an empty one is an end.
-fn cut(pieces: Vec<Vec<u8>>) -> String {
-    let (ours, its) = UnixDatagram::pair().expect("a pair of sockets");
-    // one that reads on after the end fails, and does not wait for ever
-    its.set_read_timeout(Some(Duration::from_secs(20))).expect("can be set");
-    let writer = std::thread::spawn(move || {
-        for piece in pieces {
-            // it may have stopped reading, after a refusal
-            if ours.send(&piece).is_err() {
-                return;
-            }
-        }
-        drop(ours.send(&[]));
-    });
-    let output = run(Stdio::from(OwnedFd::from(its)), Stdio::piped());
-    writer.join().expect("writing does not panic");
-    assert!(output.status.success() && output.stderr.is_empty(), "{}: {}", output.status, text(&output.stderr));
-    text(&output.stdout)
-}
-
-/// An input in pieces of a size that `size` gives, none longer than what the program asks for at that place.
-fn pieces(input: &[u8], mut size: impl FnMut() -> usize) -> Vec<Vec<u8>> {
-    let total = if input.len() >= HEADER { number(input, TOTAL) } else { HEADER };
-    let mut pieces = Vec::new();
-    let mut at = 0;
-    while at < input.len() {
-        let asked = match at {
-            // once the total's first byte is there, more than 16 may be asked for: never more than the total
-            _ if at < HEADER => HEADER - at,
-            _ if at < total => total - at,
-            _ => 4096,
-        };
-        let length = size().clamp(1, asked).min(input.len() - at);
-        pieces.push(input[at..at + length].to_vec());
-        at += length;
-    }
-    pieces
-}
-
 fn agree(input: &[u8], pieces: Vec<Vec<u8>>, origin: &str) {
-    let lengths: Vec<usize> = pieces.iter().map(Vec::len).take(200).collect();
-    let (expected, given) = (report(input), cut(pieces));
-    assert!(expected == given, "\nthe report differs ({origin}), read in parts of {lengths:?}\nexpected:\n{expected}\nwritten:\n{given}");
+    REPORT.agree_cut(input, pieces, origin);
 }
 
 #[test]
@@ -117,11 +64,7 @@ fn refused_plans_in_parts() {
     let b = draft(2, 1, &[0], &[(0, 0, 0), (0, 0, 1), (1, 0, 1)]);
     let e = draft(1, 1, &[], &[]);
     let mut inputs = vec![with_legs(&b, &[0, 0]), with_legs(&e, &[0, 0])];
-    for (place, value) in [(14, 15), (14, 0x1B), (0, 2), (2, 65), (10, 15), (16, 3), (17, 3), (25, 1)] {
-        let mut input = with_legs(&plan_a(), &[0, 0, 0]);
-        input[place] = value;
-        inputs.push(input);
-    }
+    inputs.extend(refused_inputs().into_iter().map(|(_, input)| [input.as_slice(), &[0, 0, 0]].concat()));
     for input in inputs {
         for size in [1, 2, 5, 15, 16, 4096] {
             agree(&input, pieces(&input, || size), "a refused plan");
@@ -151,7 +94,7 @@ fn a_long_plan_through_a_pipe() {
     let plan = odometer(32, 32);
     let input = with_legs(&plan, &[0; 40]);
     for size in [1, 15, 16, 17, 1000, 4096, 70_000] {
-        let mut child = started(Stdio::piped(), Stdio::piped());
+        let mut child = REPORT.started(Stdio::piped(), Stdio::piped());
         let mut stdin = child.stdin.take().expect("is piped");
         let parts: Vec<Vec<u8>> = input.chunks(size).map(<[u8]>::to_vec).collect();
         let writer = std::thread::spawn(move || parts.iter().for_each(|part| stdin.write_all(part).expect("it reads all")));
@@ -164,7 +107,7 @@ fn a_long_plan_through_a_pipe() {
 
 #[test]
 fn a_leg_is_reported_while_the_pipe_stays_open() {
-    let mut child = started(Stdio::piped(), Stdio::piped());
+    let mut child = REPORT.started(Stdio::piped(), Stdio::piped());
     let mut stdin = child.stdin.take().expect("is piped");
     let stdout = child.stdout.take().expect("is piped");
     let (told, lines) = mpsc::channel();
@@ -203,7 +146,7 @@ fn nothing_is_read_after_the_end() {
         input.resize(input.len() + 100_000, 0);
         std::fs::write(&path, &input).expect("a file can be written");
         let mut file = File::open(&path).expect("and read");
-        let output = run(Stdio::from(file.try_clone().expect("a second handle")), Stdio::piped());
+        let output = REPORT.run(Stdio::from(file.try_clone().expect("a second handle")), Stdio::piped());
         assert_eq!(text(&output.stdout), report(&input));
         let place = file.stream_position().expect("has a place") as usize;
         assert!(place <= most, "{place} bytes were read, {most} were enough");
@@ -214,8 +157,8 @@ fn nothing_is_read_after_the_end() {
 #[test]
 fn a_read_that_fails_is_no_end() {
     // a folder can be opened and not be read
-    let output = run(Stdio::from(File::open("/").expect("there is a root")), Stdio::piped());
-    assert_eq!((text(&output.stdout).as_str(), text(&output.stderr).as_str()), ("", UNREAD));
+    let output = REPORT.run(Stdio::from(File::open("/").expect("there is a root")), Stdio::piped());
+    assert_eq!((text(&output.stdout).as_str(), text(&output.stderr).as_str()), ("", REPORT.unread().as_str()));
     // a read that fails once the plan, or some legs, are there: what is booked is written, and no open line
     let first = "stakes 3 codes 1 starts 1 lines 3\nlook-ahead 1\n";
     let cases: [(&[&[u8]], String); 4] = [
@@ -231,8 +174,8 @@ fn a_read_that_fails_is_no_end() {
         for part in parts {
             ours.send(part).expect("there is room");
         }
-        let output = run(Stdio::from(OwnedFd::from(its)), Stdio::piped());
-        assert_eq!((text(&output.stdout), text(&output.stderr).as_str()), (expected, UNREAD));
+        let output = REPORT.run(Stdio::from(OwnedFd::from(its)), Stdio::piped());
+        assert_eq!((text(&output.stdout), text(&output.stderr).as_str()), (expected, REPORT.unread().as_str()));
     }
 }
 
@@ -245,8 +188,8 @@ fn a_write_that_fails_is_said() {
             drop(ours.write_all(&input));
         });
         let full = File::options().write(true).open("/dev/full").expect("there is a full device");
-        let output = run(Stdio::from(OwnedFd::from(its)), Stdio::from(full));
+        let output = REPORT.run(Stdio::from(OwnedFd::from(its)), Stdio::from(full));
         writer.join().expect("writing does not panic");
-        assert_eq!(text(&output.stderr), UNWRITTEN);
+        assert_eq!(text(&output.stderr), REPORT.unwritten());
     }
 }

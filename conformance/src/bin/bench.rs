@@ -2,7 +2,7 @@
 
 use conformance::calls::Calls;
 use conformance::families::{draft, ladder, odometer, Draft, Line};
-use conformance::forms::{evidence, letters, needs, plan, record, table};
+use conformance::forms::{evidence, letters, needs, page, plan, record, table};
 use conformance::forms::{COUNTS, LENGTH, MAX_CODES, MAX_LINES, MAX_STAKES, NEXT, POSITION, REFUSED};
 use conformance::library::Library;
 use conformance::plain::Plain;
@@ -65,6 +65,9 @@ fn show(time: &Time) -> String {
 
 /// Times `operation`, which does `count` operations, on both sides alternately.
 fn row(name: &str, count: usize, operation: &dyn Fn(&dyn Calls)) {
+    if std::env::args().nth(1).is_some_and(|word| !name.contains(&word)) {
+        return;
+    }
     let sides: [&dyn Calls; 2] = [&Library { null_if_empty: false }, &Plain];
     let mut samples = [Vec::new(), Vec::new()];
     let rounds = sides.map(|side| {
@@ -177,9 +180,9 @@ fn main() {
     let mut r = Random::new(2007, 3);
     println!("Processor time for one operation: the median of {SAMPLES} samples of some 20 ms ({FEW_SAMPLES} where one operation takes");
     println!("longer), taken of both sides in turn, with the quartiles. The timed part is the calls alone, each with all its checks:");
-    println!("from plan bytes for read, write, count (gawherino_look_ahead), prepare and needs; from a table for a leg (8 on the whole");
-    println!("table each time), a whole walk and a step (8 on the whole table too). A leg's time is that of opening and all legs (20,000");
-    println!("to 1,000,000), divided by their number; a step's that of one by each code, divided by theirs.");
+    println!("from plan bytes for read, write, count (gawherino_look_ahead), prepare, needs and page; from a table for a leg (8 on the");
+    println!("whole table each time), a whole walk and a step (8 on the whole table too). A leg's time is that of opening and all legs");
+    println!("(20,000 to 1,000,000), divided by their number; a step's that of one by each code, divided by theirs.");
     println!();
     println!("| what | library | plain Rust | plain / library |");
     println!("|---|---|---|---|");
@@ -257,8 +260,9 @@ fn main() {
     }
 
     // of the plans of the count, and of plan A
-    let smallest = [("plan A", small.clone())];
-    for (name, plan) in smallest.iter().chain([0, 3, 4, 6, 8, 10, 11, 12, 13, 14].map(|row| &plans[row])) {
+    let smallest = ("plan A", small.clone());
+    let measured: Vec<_> = std::iter::once(&smallest).chain([0, 3, 4, 6, 8, 10, 11, 12, 13, 14].map(|row| &plans[row])).collect();
+    for (name, plan) in &measured {
         let room = std::cell::RefCell::new([0; needs::length(MAX_STAKES, MAX_CODES)]);
         let numbers = |calls: &dyn Calls| {
             let mut numbers = room.borrow_mut();
@@ -269,6 +273,19 @@ fn main() {
         assert_eq!(told, numbers(&Plain), "the library and plain.rs disagree");
         row(&format!("needs, {name}: {}", says_needs(&told)), 1, &|calls| {
             black_box(calls.needs(black_box(plan), room.borrow_mut().as_mut_slice()));
+        });
+    }
+    for (name, plan) in &measured {
+        let room = std::cell::RefCell::new([0; page::most(MAX_STAKES, MAX_CODES)]);
+        let text = |calls: &dyn Calls| {
+            let (mut page, mut length) = (room.borrow_mut(), [0; LENGTH]);
+            assert_eq!(calls.page(plan, page.as_mut_slice(), &mut length), 0);
+            page[..length[0] as usize].to_vec()
+        };
+        let told = text(&Library { null_if_empty: false });
+        assert!(told == text(&Plain), "the library and plain.rs disagree");
+        row(&format!("page, {name}: {} lines", told.len() / page::LINE), 1, &|calls| {
+            black_box(calls.page(black_box(plan), room.borrow_mut().as_mut_slice(), &mut [0; LENGTH]));
         });
     }
 

@@ -1,7 +1,7 @@
 //! Plans that pass 1 to 7, of many sizes and densities, as drafts.
 
 use super::Random;
-use crate::families::{all_pairs, draft, ladder, odometer, theorem_5, unary_chain, Draft, Line};
+use crate::families::{all_pairs, draft, ladder, odometer, odometer_from, theorem_5, unary_chain, Draft, Line};
 use crate::forms::{MAX_CODES, MAX_LINES, MAX_STAKES};
 
 /// How many stakes: mostly few, so that every shape is met, and sometimes all 64.
@@ -199,6 +199,60 @@ pub fn widened(r: &mut Random, plan: &Draft) -> Draft {
     }
     for _ in 0..r.among(1, 3) {
         add(&mut plan, (last, code, r.below(MAX_STAKES) as u8));
+    }
+    plan
+}
+
+/// A plan for a page: mostly the one that was drawn, or that with sets as wide as a bar or wider; counters with needs of any length; one
+/// among 64 stakes and 32 codes, or one of that size with a line for every set.
+pub fn to_page(r: &mut Random, plan: &Draft) -> Draft {
+    match r.below(100) {
+        0 => every_set(r),
+        1..=3 => widened(r, plan),
+        4..=6 => counting(r),
+        7..=30 => with_wide_sets(r, plan),
+        _ => plan.clone(),
+    }
+}
+
+/// The plan with a few sets, forks of starts mostly or the starts themselves, that have about as many stakes as a bar has hash signs.
+fn with_wide_sets(r: &mut Random, plan: &Draft) -> Draft {
+    let mut plan = plan.clone();
+    for _ in 0..r.among(1, 3) {
+        let size = r.pick(&[1, 2, 21, 22, 22, 23, 23, 24, 24, 25, 40, MAX_STAKES - 1, MAX_STAKES]);
+        plan.n = plan.n.max(size);
+        let stakes = some_starts(r, plan.n, size);
+        if r.percent(30) {
+            plan.starts = stakes;
+            continue;
+        }
+        let any = r.below(plan.n) as u8;
+        let from = if plan.starts.is_empty() || r.percent(20) { any } else { r.pick(&plan.starts) };
+        let code = r.below(plan.m) as u8;
+        plan.lines.retain(|line| (line.0, line.1) != (from, code));
+        stakes.into_iter().for_each(|to| add(&mut plan, (from, code, to)));
+    }
+    plan
+}
+
+/// Two counters with forks to anywhere in their count, its beginning above all, so that needs of one to four digits stand side by side.
+fn counting(r: &mut Random) -> Draft {
+    let (i, j) = r.pick(&[(32, 32), (32, 32), (11, 12), (4, 9)]);
+    let places: Vec<(usize, usize)> = (0..i).map(|_| (if r.percent(30) { 0 } else { r.below(i) }, r.below(j))).collect();
+    odometer_from(i, j, &places)
+}
+
+/// 64 stakes and 32 codes, lines from each stake by each code, and all are reached: no set is without a line on the page.
+fn every_set(r: &mut Random) -> Draft {
+    let mut plan = draft(MAX_STAKES, MAX_CODES, &[0], &[]);
+    for from in 0..MAX_STAKES {
+        for code in 0..MAX_CODES {
+            let to = if code == 0 { (from + 1) % MAX_STAKES } else { r.below(MAX_STAKES) };
+            plan.lines.push((from as u8, code as u8, to as u8));
+        }
+    }
+    for _ in 0..r.pick(&[0, 1, 20, 500]) {
+        add(&mut plan, (r.below(MAX_STAKES) as u8, r.below(MAX_CODES) as u8, r.below(MAX_STAKES) as u8));
     }
     plan
 }

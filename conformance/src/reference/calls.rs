@@ -4,7 +4,7 @@ use super::forms::{evidence_length, record_length, table_length, COUNTS, EVIDENC
 use super::plan::{Plan, Read};
 use super::record::{Booking, Record};
 use super::table::{plan_of, table_of};
-use super::{claim, lookahead, plan, record, refuse, to_number, walk as walks, Refusal, Stakes};
+use super::{claim, lookahead, page as pages, plan, record, refuse, to_number, walk as walks, Refusal, Stakes};
 use crate::calls::{by_functions, every_call};
 use std::cell::Cell;
 
@@ -99,6 +99,17 @@ fn needs(plan: &[u8], needs: &mut [u16]) -> Result<u32, Refusal> {
     lent(needs, numbers.len(), "needs")?;
     put(needs, &numbers);
     Ok(numbers.len() as u32)
+}
+
+/// W-206: "A short buffer is refused with 9." How many bytes a page has may be above 65,535, and so it stands in a slice, as a whole
+/// walk's length does.
+fn page(plan: &[u8], page: &mut [u8], length: &mut [u64]) -> Result<u32, Refusal> {
+    let text = pages::page(&plan::read(plan)?.plan);
+    lent(page, text.len(), "page")?;
+    lent(length, 1, "length")?;
+    put(page, text.as_bytes());
+    put(length, &[text.len() as u64]);
+    Ok(0)
 }
 
 fn step(table: &[u64], set: u64, letter: u32, next: &mut [u64]) -> Result<u32, Refusal> {

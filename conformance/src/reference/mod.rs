@@ -6,6 +6,7 @@ pub mod claim;
 pub mod doubt;
 mod forms;
 pub mod lookahead;
+pub mod page;
 pub mod plan;
 pub mod record;
 pub mod report;

@@ -2,7 +2,7 @@
 
 use super::forms::{number, HEADER, MOST_LEGS, TOTAL};
 use super::lookahead::look_ahead;
-use super::plan::read;
+use super::plan::{read, Read};
 use super::walk::{possible, step};
 use super::{group, members, size};
 
@@ -12,18 +12,25 @@ pub fn refused(number: u32) -> String {
     format!("refused {number} {name}\n")
 }
 
-pub fn report(input: &[u8]) -> String {
+/// The plan that a program's input begins with, and the bytes behind it; or the number of the refusal.
+pub fn begun_with(input: &[u8]) -> Result<(Read, &[u8]), u32> {
     // refusal 1 here: fewer than 16 bytes, a total below 16, or fewer bytes than the total
     if input.len() < HEADER {
-        return refused(1);
+        return Err(1);
     }
     let total = number(input, TOTAL);
     if total < HEADER || input.len() < total {
-        return refused(1);
+        return Err(1);
     }
-    let (plan, p, e) = match read(&input[..total]) {
-        Ok(read) => (read.plan, read.p, read.e),
-        Err(refusal) => return refused(refusal.number),
+    let (plan, behind) = input.split_at(total);
+    let read = read(plan).map_err(|refusal| refusal.number)?;
+    Ok((read, behind))
+}
+
+pub fn report(input: &[u8]) -> String {
+    let (Read { plan, p, e }, legs) = match begun_with(input) {
+        Ok(begun) => begun,
+        Err(number) => return refused(number),
     };
     let mut text = format!("stakes {} codes {} starts {p} lines {e}\n", plan.n, plan.m);
     let Some(k) = look_ahead(&plan) else {
@@ -37,7 +44,7 @@ pub fn report(input: &[u8]) -> String {
     let mut reached = plan.starts.clone();
     let mut taken = Vec::new();
     let mut ended = String::new();
-    for &code in &input[total..] {
+    for &code in legs {
         let refusal = if taken.len() == MOST_LEGS {
             11
         } else if code as usize >= plan.m {

@@ -3,12 +3,13 @@
 use Prim.Native.Nat.{ℕ, _+_, _-_, _^_, min, _≤_, _<_}
 use mathlib.Core.Bool.{Bool, true, false, cond}
 use mathlib.Core.Path.{_≡_, refl, sym, _∙_, ap}
-use mathlib.Core.List.{List, [], _∷_, _++_, append-assoc}
+use mathlib.Core.List.{List, [], _∷_, _++_, append-assoc, append-nil}
 use native.Mathlib.Omega.{arith}
 use lib.Dec.{eqb}
 use borrow.Author.Tests.{eq-eqb, ne-eqb}
-use lib.ListN.{length, take, drop, replicate, length-append, length-replicate}
-use lib.Seq.{take-all, drop-append-le}
+use lib.ListN.{length, take, drop, replicate, length-append, length-replicate, drop-of-length-le}
+use lib.Seq.{append-snoc, drop-drop}
+use Rattle.slices.specs.Copying.{atFront}
 use Rattle.slices.specs.Appending.{Room, Appended}
 use Rattle.slices.proofs.Appending.{appended-none, room-left, room-on, appended-on}
 use Rattle.decimals.specs.Decimals.{decimal, blanks, right, left}
@@ -19,16 +20,9 @@ use Rattle.pages.specs.inner.Rows.{label, rest}
 use Rattle.semiautomata.specs.Predictability.{initial}
 use Rattle.pages.specs.Page.{stateText, letterText, needText, longestBar, bar, line, pageLine, shown}
 
--- A NUMBER: the last of six columns
-
-pub last-columns : (width : ℕ) (text : List ℕ) → length text ≤ width → width ≤ 6 → take (6 - (6 - width)) (drop (6 - width) (right 6 text)) ≡ right width text
-unfolding right
-last-columns width text h g =
-    let b : 6 - width + (width - length text) ≡ 6 - length text = omega arith in
-    let cut : drop (6 - width) (blanks (6 - length text) ++ text) ≡ blanks (width - length text) ++ text =
-    drop-append-le (6 - width) (blanks (6 - length text)) text (rw length-replicate (omega arith))
-    ∙ ap (λ (l : List ℕ). l ++ text) (rw b at (drop-row (6 - width) (width - length text) 32)) in
-    rw cut (take-all (6 - (6 - width)) (blanks (width - length text) ++ text) (simp (length-append, length-replicate) (omega arith)))
+-- all columns of a part made blank
+pub made : (xs old : List ℕ) {columns : List ℕ} → length old ≡ length xs → columns ≡ atFront xs old → columns ≡ xs
+made xs old h e = e ∙ rw (drop-of-length-le old {i = length xs} (omega arith), append-nil)
 
 -- THE BAR: signs put over the front of blank columns
 
@@ -74,6 +68,39 @@ line-long state letter v count a b c =
       right-long 6 (needText v) c,
       left-long longestBar (bar count) (bar-short count),
     ))
+
+-- the halves of a line, made blank and then put from the right to the left
+pub label-put : {b l s : List ℕ} (state letter : List ℕ) → b ≡ blanks 9 → l ≡ letter → s ≡ state
+    → s ++ drop 4 (take 5 b ++ (l ++ drop 4 (drop 5 b))) ≡ state ++ blanks 1 ++ letter
+label-put state letter b l s = rw (b, l, s, append-nil) (sym (append-snoc state 32 letter))
+
+pub rest-put : {b g n : List ℕ} (need signs : List ℕ) → b ≡ blanks 31 ++ (10 ∷ []) → g ≡ signs → n ≡ need
+    → take 1 (take 8 b ++ (g ++ drop 23 (drop 8 b))) ++ (n ++ drop 6 (drop 1 (take 8 b ++ (g ++ drop 23 (drop 8 b)))))
+    ≡ blanks 1 ++ need ++ blanks 1 ++ signs ++ (10 ∷ [])
+rest-put need signs b g n = rw (b, g, n) (simp append-assoc)
+
+-- .. have nine and 32 bytes
+pub label-long : (q a : ℕ) → q < 64 → a < 32 → length (label (decimal q) (decimal a)) ≡ 9
+label-long q a h g = simp length-append (omega (
+  arith,
+  right-long 4 (decimal q) (decimal-length 3 q (omega arith)),
+  right-long 4 (decimal a) (decimal-length 3 a (omega arith)),
+))
+
+pub rest-long : (v count : ℕ) → length (needText v) ≤ 6 → length (rest v count) ≡ 32
+rest-long v count h =
+    simp length-append (omega (arith, right-long 6 (needText v) h, left-long longestBar (bar count) (bar-short count)))
+
+-- a part of a buffer that is filled whole
+pub part-filled : (old : List ℕ) (at w : ℕ) {text ys : List ℕ} → length text ≡ w → Room old at text → ys ≡ text
+    → Appended old at text (at + w) (take at old ++ (ys ++ drop (at + w - at) (drop at old)))
+part-filled old at w {text} l h e =
+    let d : at + w - at ≡ length text = omega arith in
+    record {
+      room = h;
+      end = omega arith;
+      is = rw (e, d, drop-drop (length text) at old) (sym (append-assoc (take at old) text (drop (at + length text) old)));
+    }
 
 -- in two parts: the first nine columns, and the rest
 regroup : (f a b c d e : List ℕ) → f ++ a ++ b ++ c ++ d ++ e ≡ f ++ (a ++ b ++ c ++ d ++ e)

@@ -21,35 +21,24 @@ pub enum Page {
     Refused(u8),
 }
 
-// The bytes of a line, its line feed among them; of the longest bar; and of the largest page.
+// The bytes of a line, its line feed among them, and of the largest page.
 const LINE: usize = 41;
-
-const BAR: usize = 23;
 
 const MOST_NEEDS: usize = semiautomata::MAX_SETS + 1;
 
 pub const MAX_PAGE: usize = LINE * MOST_NEEDS;
 
-// A number, right-aligned in so many columns, six at the most.
-fn put_number(out: &mut [u8], at: usize, width: usize, x: u64) -> usize
-    requires { ⌜ (length (decimal x) ≤ width) × (width ≤ 6) × Room (now out) at (right width (decimal x)) ⌝ }
-    ensures { λ r. ⌜ Appended (now (out .entry)) at (right width (decimal x)) r (now (out .exit)) ⌝ }
-{
-    let mut columns = [b' '; 6];
-    decimals::right(&mut columns, x);
-    let from = 6 - width;
-    slices::append(out, at, &columns[from..])
-}
+// A line is filled where it stands: its columns are made blank, and then put from the right to the left.
 
-// A need; a dash in the last column where there is none.
-fn put_need(out: &mut [u8], at: usize, need: u16) -> usize
-    requires { ⌜ Room (now out) at (right 6 (needText need)) ⌝ }
-    ensures { λ r. ⌜ Appended (now (out .entry)) at (right 6 (needText need)) r (now (out .exit)) ⌝ }
+// The need, in six blank columns; a dash in the last of them where there is none.
+fn fill_need(columns: &mut [u8], need: u16)
+    requires { ⌜ now columns ≡ blanks 6 ⌝ }
+    ensures { λ _. ⌜ now (columns .exit) ≡ right 6 (needText need) ⌝ }
 {
     if need == ENDLESS {
-        slices::append(out, at, b"     -")
+        columns[5] = b'-';
     } else {
-        put_number(out, at, 6, need as u64)
+        decimals::right(columns, need as u64);
     }
 }
 
@@ -57,41 +46,56 @@ fn put_need(out: &mut [u8], at: usize, need: u16) -> usize
 fn signs(count: u32) -> usize
     ensures { λ r. ⌜ r ≡ min longestBar count ⌝ }
 {
-    if count < 23 { count as usize } else { BAR }
+    if count < 23 { count as usize } else { 23 }
 }
 
-// The bar of so many states, left-aligned.
-fn put_bar(out: &mut [u8], at: usize, count: u32) -> usize
-    requires { ⌜ Room (now out) at (left longestBar (bar count)) ⌝ }
-    ensures { λ r. ⌜ Appended (now (out .entry)) at (left longestBar (bar count)) r (now (out .exit)) ⌝ }
+// The bar of so many states, in 23 blank columns.
+fn fill_bar(columns: &mut [u8], count: u32)
+    requires { ⌜ now columns ≡ blanks longestBar ⌝ }
+    ensures { λ _. ⌜ now (columns .exit) ≡ left longestBar (bar count) ⌝ }
 {
-    let mut columns = [b' '; BAR];
     for i in 0..signs(count) {
         columns[i] = b'#';
     }
-    slices::append(out, at, &columns)
 }
 
 // The first nine columns of a fork set: its state and its letter.
+fn fill_label(columns: &mut [u8], q: usize, a: usize)
+    requires { ⌜ (length (now columns) ≡ 9) × (q < 64) × (a < 32) ⌝ }
+    ensures { λ _. ⌜ now (columns .exit) ≡ label (decimal q) (decimal a) ⌝ }
+{
+    slices::copy_8(columns, b"         ");
+    decimals::right(&mut columns[5..9], a as u64);
+    decimals::right(&mut columns[0..4], q as u64);
+}
+
+// A line from column 10 on: the need, the bar of a set, the line feed.
+fn fill_rest(columns: &mut [u8], need: u16, set: u64)
+    requires { ⌜ length (now columns) ≡ 32 ⌝ }
+    ensures { λ _. ⌜ now (columns .exit) ≡ rest need (states set) ⌝ }
+{
+    slices::copy_8(columns, b"                               \n");
+    fill_bar(&mut columns[8..31], u64::count_ones(set));
+    fill_need(&mut columns[1..7], need);
+}
+
+// Both at a place of a buffer; the answer is the place behind them.
 fn put_label(out: &mut [u8], at: usize, q: usize, a: usize) -> usize
     requires { ⌜ (q < 64) × (a < 32) × Room (now out) at (label (decimal q) (decimal a)) ⌝ }
     ensures { λ r. ⌜ Appended (now (out .entry)) at (label (decimal q) (decimal a)) r (now (out .exit)) ⌝ }
 {
-    let state_end = put_number(out, at, 4, q as u64);
-    let letter_at = slices::append(out, state_end, b" ");
-    put_number(out, letter_at, 4, a as u64)
+    let end = at + 9;
+    fill_label(&mut out[at..end], q, a);
+    end
 }
 
-// A line from column 10 on: the need, the bar of a set, the line feed.
 fn put_rest(out: &mut [u8], at: usize, need: u16, set: u64) -> usize
     requires { ⌜ Room (now out) at (rest need (states set)) ⌝ }
     ensures { λ r. ⌜ Appended (now (out .entry)) at (rest need (states set)) r (now (out .exit)) ⌝ }
 {
-    let need_at = slices::append(out, at, b" ");
-    let need_end = put_need(out, need_at, need);
-    let bar_at = slices::append(out, need_end, b" ");
-    let bar_end = put_bar(out, bar_at, u64::count_ones(set));
-    slices::append(out, bar_end, b"\n")
+    let end = at + 32;
+    fill_rest(&mut out[at..end], need, set);
+    end
 }
 
 // The line of the initial states, if they have one.
