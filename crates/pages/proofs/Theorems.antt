@@ -127,7 +127,7 @@ module _ {S : Semiautomaton} (Z : Sized S) {numbers : List ℕ} (t : TellsNeeds 
   bytes : length (page S numbers) ≡ 41 * linesBefore numbers (length numbers)
   bytes = rw (t .long) (page-long (Z .within) (Z .n-high) (Z .m-high) t)
 
-  most : length (page S numbers) ≤ maxPage
+  pub most : length (page S numbers) ≤ maxPage
   most = omega (
     arith,
     bytes,

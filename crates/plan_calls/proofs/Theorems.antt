@@ -6,12 +6,12 @@ use mathlib.Core.Path.{_≡_, refl, sym, _∙_, ap}
 use mathlib.Core.List.{List, _++_}
 use mathlib.Core.Logic.{_↔_, inl, inr}
 use native.Mathlib.Omega.{arith}
-use lib.ListN.{getD, take}
+use lib.ListN.{length, getD, take}
 use Rattle.semiautomata.specs.Predictability.{Critical, named, Lookahead}
 use Rattle.semiautomata.specs.Sizes.{endless}
 use Rattle.refusals.specs.Outcomes.{Outcome, refused, answered, refusing}
 use Rattle.plan.specs.Asked.{Asked, refusalOf, Passes, Proper}
-use Rattle.plan.specs.Bytes.{meaning, asked}
+use Rattle.plan.specs.Bytes.{meaning, asked, WellFormed}
 use Rattle.plan.proofs.Asked.{clear-passes}
 use Rattle.plan.proofs.Refusals.{asked-proper}
 use Rattle.prepare.specs.declared.Prepared.{Prepared}
@@ -27,13 +27,18 @@ use Rattle.filing.specs.Theorems.{WrittenFor}
 use Rattle.filing.proofs.Form.{written-few}
 use Rattle.needs.specs.declared.Needs.{Needs}
 use Rattle.needs.specs.declared.Needs.the-variants as told
-use Rattle.needs.specs.Needs.{Of, placeOf, largest, outcomeOfNeeds, NeedsOf}
+use Rattle.needs.specs.Needs.{Of, placeOf, TellsNeeds, largest, outcomeOfNeeds, NeedsOf}
 use Rattle.needs.specs.Theorems.{LookedAhead, SomeEndless}
 use Rattle.needs.specs.Theorems as of-needs
 use Rattle.needs.proofs.Theorems.{looked, needs-few, met}
-use Rattle.numbers.specs.Numbers.{Number, value, refusal as refusal-number, answers, refuses}
+use Rattle.pages.specs.declared.Page.{Page}
+use Rattle.pages.specs.declared.Page.the-variants as hung
+use Rattle.pages.specs.Page.{page}
+use Rattle.pages.specs.Paging.{outcomeOfPage, PageOf}
+use Rattle.pages.proofs.Theorems.{met as pages-met}
+use Rattle.numbers.specs.Numbers.{Passed, Number, value, refusal as refusal-number, answers, refuses}
 use Rattle.numbers.proofs.Answering.{gives-number}
-use Rattle.plan_calls.specs.Promises.{evidenceOf, ofWriting, ofNeeds, claimOf}
+use Rattle.plan_calls.specs.Promises.{evidenceOf, ofWriting, ofNeeds, ofPage, claimOf, PassesNeeds, PassesPage}
 use Rattle.plan_calls.specs.Theorems.{AnswersAhead, prepared, counted, drawn, ShowsEvidence, Theorems}
 use Rattle.plan_calls.proofs.Answering.{asked-numbered, unread-number, short-number, reading-number, prepared-number, counted-number}
 use Rattle.plan_calls.proofs.Answering.{checked-number}
@@ -69,6 +74,37 @@ told-of : (plan old needs : List ℕ) (r : ℕ) (a : Needs) → NeedsOf (asked p
 told-of plan old needs r (told.Entries count) d e h =
     (clear-passes (asked plan) (asked-proper plan) _ (d .0), rw e (met (asked plan) (asked-proper plan) .written count old needs d))
 told-of plan old needs r (told.Refused x) d e h = absurd (omega arith)
+
+-- a page, and how many bytes it has
+paged-number : (plan old out : List ℕ) (a : Page) → PageOf (asked plan) a old out → Number (ofPage a .first)
+paged-number plan old out (hung.Bytes count) p = value (omega arith)
+paged-number plan old out (hung.Refused r) p = let (e, z, _) = p .gives in short-number (asked plan) (asked-proper plan) _ e z
+
+-- a page that was not refused is one of so many bytes
+paged : (plan : List ℕ) {r : ℕ} {old out old′ length′ : List ℕ} → PassesPage (asked plan) r old out old′ length′ → r < 65536
+    → (r ≡ 0) × PageOf (asked plan) (hung.Bytes (getD length′ 0 0)) old out
+paged plan (answers _ (hung.Bytes count) p s) h = (s .answered, rw (s .written) p)
+paged plan (answers _ (hung.Refused x) p s) h = absurd (omega (arith, s .answered))
+paged plan (refuses _ e _ _) h = absurd (omega (arith, e))
+
+paged-is : (a : Page) {count r : ℕ} {old length′ : List ℕ} → outcomeOfPage a ≡ answered count → Passed (ofPage a) r old length′
+    → (r ≡ 0) × (getD length′ 0 0 ≡ count)
+paged-is a e p = let q = rw e at p in (q .answered, rw (q .written))
+
+paged-so : (plan : List ℕ) {r : ℕ} {old out old′ length′ : List ℕ} → PassesPage (asked plan) r old out old′ length′ → WellFormed plan
+    → (numbers : List ℕ) → TellsNeeds (meaning plan) numbers → length (page (meaning plan) numbers) ≤ length old → 1 ≤ length old′
+    → (r ≡ 0) × (getD length′ 0 0 ≡ length (page (meaning plan) numbers))
+paged-so plan {old = old} {out = out} (answers _ a p s) w numbers t room _ =
+    paged-is a (pages-met (asked plan) (asked-proper plan) .answers w numbers t a old out room p) s
+paged-so plan (refuses short _ _ _) w numbers t room one = absurd (omega arith)
+
+-- .. of the numbers that the call for the needs wrote
+needed-page : (plan old out : List ℕ) (count : ℕ) → PageOf (asked plan) (hung.Bytes count) old out
+    → (answer : ℕ) (old′ needs : List ℕ) (a : Needs) → NeedsOf (asked plan) a old′ needs → answer ≡ ofNeeds a .first → answer < 65536
+    → take count out ≡ page (meaning plan) (take answer needs)
+needed-page plan old out count q answer old′ needs (told.Entries entries) d e h =
+    rw e (pages-met (asked plan) (asked-proper plan) .of-needs count entries old out old′ needs q d)
+needed-page plan old out count q answer old′ needs (told.Refused x) d e h = absurd (omega arith)
 
 -- WHAT A LOOK-AHEAD IS ANSWERED WITH, in numbers
 
@@ -137,6 +173,7 @@ theorems r = record {
       rw (p .passed .answered) (checked-number (asked plan) (asked-proper plan) (claimOf claim) letters (p .answer) (p .meets));
   writing = λ plan old out p. rw (p .passed .answered) (written-number plan old out (p .answer) (p .meets));
   needing = λ plan old needs p. rw (p .passed .answered) (needed-number plan old needs (p .answer) (p .meets));
+  paging = λ plan old out old′ length′. gives-number (asked-numbered (asked plan) (asked-proper plan)) (paged-number plan old out);
   written = λ plan old out p. written-for plan old out r (p .answer) (p .meets) (p .passed .answered);
   needed = λ plan old needs p w room.
       p .passed .answered ∙ needed-is (p .answer) (met (asked plan) (asked-proper plan) .answers w (p .answer) old needs room (p .meets));
@@ -147,4 +184,11 @@ theorems r = record {
   evidence-ahead = λ plan old needs p h evidence s.
       let (w, t) = told-of plan old needs r (p .answer) (p .meets) (p .passed .answered) h in
       evidence-ahead plan w t s;
+  hung = λ plan old out old′ length′ p h.
+      let (e, q) = paged plan p h in
+      (e, pages-met (asked plan) (asked-proper plan) .written (getD length′ 0 0) old out q);
+  hangs = λ plan old out old′ length′ p. paged-so plan p;
+  hung-needs = λ plan old out old′ length′ p h answer old″ needs n g.
+      let (_, q) = paged plan p h in
+      needed-page plan old out (getD length′ 0 0) q answer old″ needs (n .answer) (n .meets) (n .passed .answered) g;
 }

@@ -1,5 +1,6 @@
 -- What follows of the promises on plans for C: whatever a call is lent, it answers a value below 65,536, or 65,536 plus the number of a
--- refusal; what writing wrote is what the theorems of crate filing speak of; and the needs are those that crate needs speaks of.
+-- refusal; what writing wrote is what the theorems of crate filing speak of, the needs are those that crate needs speaks of, and the page is
+-- that of which crate pages speaks.
 -- proofs/Theorems.antt has the proofs.
 -- Assumes nothing.
 use Prim.Native.Nat.{ℕ, _+_, _*_, _≤_, _<_}
@@ -14,12 +15,15 @@ use Rattle.plan.specs.Bytes.{meaning, asked, WellFormed}
 use Rattle.table.specs.Table.{setsFrom}
 use Rattle.prepare.specs.Preparing.{Draws}
 use Rattle.filing.specs.Theorems.{WrittenFor}
-use Rattle.needs.specs.Needs.{Of, placeOf, entries, largest}
+use Rattle.needs.specs.Needs.{Of, placeOf, entries, TellsNeeds, largest}
 use Rattle.needs.specs.Theorems.{SomeEndless}
 use Rattle.needs.specs.Theorems as of-needs
+use Rattle.pages.specs.Page.{page}
+use Rattle.pages.specs.Theorems as of-pages
 use Rattle.refusals.specs.Outcomes.{refusing}
 use Rattle.numbers.specs.Numbers.{Number}
 use Rattle.plan_calls.specs.Promises.{PassesReading, PassesPrepared, PassesCount, PassesCheck, PassesWriting, PassesNeeds}
+use Rattle.plan_calls.specs.Promises.{PassesPage}
 
 -- What preparing, the count call or the drawing program's entry answers for C, buffers lent to it being long enough.
 pub data AnswersAhead (plan : List ℕ) (answer : ℕ) : Type 0 where
@@ -47,6 +51,7 @@ pub record Theorems (r : ℕ) : Type 0 where
   pub checking : (plan claim letters : List ℕ) → PassesCheck (asked plan) claim letters r → Number r
   pub writing : (plan old out : List ℕ) → PassesWriting plan r old out → Number r
   pub needing : (plan old needs : List ℕ) → PassesNeeds (asked plan) r old needs → Number r
+  pub paging : (plan old out old′ length′ : List ℕ) → PassesPage (asked plan) r old out old′ length′ → Number r
   -- What a call that was not refused wrote is what filing/specs/Theorems speaks of.
   pub written : (plan old out : List ℕ) → PassesWriting plan r old out → r < 65536 → WrittenFor plan (take r out)
   -- .. what needs/specs/Theorems speaks of; and where none of 1 to 7 applies and enough numbers are lent, it is not refused.
@@ -61,3 +66,13 @@ pub record Theorems (r : ℕ) : Type 0 where
       → (evidence : List ℕ) → ShowsEvidence plan evidence
       → (T : Critical) × (named (meaning plan) (getD evidence 0 0) (getD evidence 1 0) ≡ some T) × Of (meaning plan) T
       × (getD (take r needs) (placeOf (meaning plan) T) 0 ≡ endless)
+  -- A page, whose bytes the further value counts: what pages/specs/Theorems speaks of; where none of 1 to 7 applies and enough is lent, it is
+  -- not refused; and it is the page of the numbers that the call for the needs wrote.
+  pub hung : (plan old out old′ length′ : List ℕ) → PassesPage (asked plan) r old out old′ length′ → r < 65536
+      → (r ≡ 0) × ((numbers : List ℕ) × of-pages.Theorems (asked plan) numbers (take (getD length′ 0 0) out))
+  pub hangs : (plan old out old′ length′ : List ℕ) → PassesPage (asked plan) r old out old′ length′ → WellFormed plan
+      → (numbers : List ℕ) → TellsNeeds (meaning plan) numbers → length (page (meaning plan) numbers) ≤ length old → 1 ≤ length old′
+      → (r ≡ 0) × (getD length′ 0 0 ≡ length (page (meaning plan) numbers))
+  pub hung-needs : (plan old out old′ length′ : List ℕ) → PassesPage (asked plan) r old out old′ length′ → r < 65536
+      → (answer : ℕ) (old″ needs : List ℕ) → PassesNeeds (asked plan) answer old″ needs → answer < 65536
+      → take (getD length′ 0 0) out ≡ page (meaning plan) (take answer needs)
