@@ -4,19 +4,28 @@ use Prim.Native.Nat.{ℕ, _≤_}
 use mathlib.Core.Bool.{true, false}
 use mathlib.Core.Path.{_≡_, refl, sym, _∙_, ap}
 use mathlib.Core.Logic.{inl, inr}
-use mathlib.Core.List.{List, _++_}
+use mathlib.Core.List.{List, [], _∷_, _++_}
 use native.Mathlib.Omega.{arith}
 use lib.ListN.{length}
 use Rattle.bitset.proofs.Tests.{decided}
-use Rattle.plan.specs.Bytes.{meaning, refusal}
+use Rattle.slices.specs.Appending.{each}
+use Rattle.decimals.specs.Decimals.{digits, decimal, right, left}
+use Rattle.bitset.specs.Sets.{any, size}
+use Rattle.semiautomata.specs.Sizes.{endless, unmeasured}
+use Rattle.semiautomata.specs.Levels.{live, clashIn}
+use Rattle.semiautomata.specs.Access.{accessible, accessibleBy}
+use Rattle.plan.specs.Asked.{refusalOf}
+use Rattle.plan.specs.Bytes.{meaning, refusal, planChecks, WellFormed}
+use Rattle.plan.proofs.Refusals.{asked-proper}
+use Rattle.needs.proofs.Computed.{tells-so}
 use Rattle.inputs.specs.Inputs.{planOf, noPlan, wanted}
 use Rattle.inputs.proofs.Inputs.{still-plan, same-plan, told-wanted}
 use Rattle.needs.specs.Needs.{TellsNeeds}
 use Rattle.needs.proofs.Theorems.{tells-unique}
 use Rattle.lines.specs.Lines.{refusedLine}
-use Rattle.pages.specs.Page.{page}
+use Rattle.pages.specs.Page.{page, line}
 use Rattle.page.specs.Printing.{inputRefusal, Shows, refused, hung}
-use Rattle.page.specs.Theorems.{Theorems}
+use Rattle.page.specs.Theorems.{sampleInput, sampleText, Theorems}
 
 one≢0 : ¬ (_≡_ {A = ℕ} 1 0)
 one≢0 e = omega arith
@@ -47,5 +56,42 @@ module _ (input rest : List ℕ) (enough : wanted input ≤ length input) where
       let same = same-plan input (has-plan input z) rest in
       rw (← same) (hung (same-refusal ∙ z) numbers (rw same t))
 
+-- THE SAMPLE, by computing
+
+abbrev sampleNumbers : List ℕ
+sampleNumbers =
+    3
+    ∷ 0
+    ∷ 0
+    ∷ 0
+    ∷ unmeasured
+    ∷ unmeasured
+    ∷ 0
+    ∷ unmeasured
+    ∷ unmeasured
+    ∷ endless
+    ∷ unmeasured
+    ∷ 0
+    ∷ unmeasured
+    ∷ unmeasured
+    ∷ unmeasured
+    ∷ unmeasured
+    ∷ unmeasured
+    ∷ []
+
+well-formed : WellFormed (planOf sampleInput)
+unfolding refusalOf planChecks any
+well-formed = refl
+
+sample-tells : TellsNeeds (meaning (planOf sampleInput)) sampleNumbers
+unfolding any clashIn live accessible accessibleBy
+sample-tells =
+    let z = asked-proper (planOf sampleInput) .sized well-formed in
+    tells-so (meaning (planOf sampleInput)) (z .within) (z .n-high) sampleNumbers refl
+
+sample : Shows sampleInput sampleText
+unfolding inputRefusal noPlan refusalOf planChecks any page line right left decimal digits each size
+sample = hung refl sampleNumbers sample-tells
+
 pub theorems : (input : List ℕ) → Theorems input
-theorems input = record { unique = unique; behind = λ rest text h s. behind input rest h text s }
+theorems input = record { unique = unique; behind = λ rest text h s. behind input rest h text s; sample = sample }

@@ -29,7 +29,7 @@ pub record Prints (input old : List ℕ) (r : ℕ) (out : List ℕ) : Type 0 whe
   pub shows : Shows input text
   pub put : Appended old 0 text r out
 
--- No more bytes are read than so many.
+-- What reading answers: no more bytes than so many.
 abbrev pub Within : ℕ → Input → Type 0
 Within most (Bytes count) = count ≤ most
 Within most Unread = Unit {0}

@@ -79,7 +79,7 @@ fn fill_rest(columns: &mut [u8], need: u16, set: u64)
     fill_need(&mut columns[1..7], need);
 }
 
-// Both at a place of a buffer; the answer is the place behind them.
+// Either of these two at a place of a buffer; the answer is the place behind it.
 fn put_label(out: &mut [u8], at: usize, q: usize, a: usize) -> usize
     requires { ⌜ (q < 64) × (a < 32) × Room (now out) at (label (decimal q) (decimal a)) ⌝ }
     ensures { λ r. ⌜ Appended (now (out .entry)) at (label (decimal q) (decimal a)) r (now (out .exit)) ⌝ }
@@ -115,7 +115,7 @@ fn put_fork(out: &mut [u8], at: usize, q: usize, a: usize, need: u16, set: u64) 
     requires { ⌜ (q < 64) × (a < 32) × Room (now out) at (forkShown q a need set) ⌝ }
     ensures { λ r. ⌜ Appended (now (out .entry)) at (forkShown q a need set) r (now (out .exit)) ⌝ }
 {
-    if need == UNMEASURED {
+    if need == UNMEASURED { // no line
         return at;
     }
     let end = put_label(out, at, q, a);

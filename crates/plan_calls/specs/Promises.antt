@@ -96,4 +96,4 @@ pub record PassesNeeds (A : Asked) (r : ℕ) (old needs : List ℕ) : Type 0 whe
   pub passed : Passed (ofNeeds answer) r [] []
 
 abbrev pub PassesPage : Asked → ℕ → List ℕ → List ℕ → List ℕ → List ℕ → Type 0
-PassesPage A r old page old′ length = PassesOn ofPage 1 (A .checks) (λ a. PageOf A a old page) (page ≡ old) r old′ length
+PassesPage A r old out old′ count = PassesOn ofPage 1 (A .checks) (λ a. PageOf A a old out) (out ≡ old) r old′ count

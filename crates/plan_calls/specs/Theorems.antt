@@ -51,7 +51,7 @@ pub record Theorems (r : ℕ) : Type 0 where
   pub checking : (plan claim letters : List ℕ) → PassesCheck (asked plan) claim letters r → Number r
   pub writing : (plan old out : List ℕ) → PassesWriting plan r old out → Number r
   pub needing : (plan old needs : List ℕ) → PassesNeeds (asked plan) r old needs → Number r
-  pub paging : (plan old out old′ length′ : List ℕ) → PassesPage (asked plan) r old out old′ length′ → Number r
+  pub paging : (plan old out old′ count : List ℕ) → PassesPage (asked plan) r old out old′ count → Number r
   -- What a call that was not refused wrote is what filing/specs/Theorems speaks of.
   pub written : (plan old out : List ℕ) → PassesWriting plan r old out → r < 65536 → WrittenFor plan (take r out)
   -- .. what needs/specs/Theorems speaks of; and where none of 1 to 7 applies and enough numbers are lent, it is not refused.
@@ -68,11 +68,11 @@ pub record Theorems (r : ℕ) : Type 0 where
       × (getD (take r needs) (placeOf (meaning plan) T) 0 ≡ endless)
   -- A page, whose bytes the further value counts: what pages/specs/Theorems speaks of; where none of 1 to 7 applies and enough is lent, it is
   -- not refused; and it is the page of the numbers that the call for the needs wrote.
-  pub hung : (plan old out old′ length′ : List ℕ) → PassesPage (asked plan) r old out old′ length′ → r < 65536
-      → (r ≡ 0) × ((numbers : List ℕ) × of-pages.Theorems (asked plan) numbers (take (getD length′ 0 0) out))
-  pub hangs : (plan old out old′ length′ : List ℕ) → PassesPage (asked plan) r old out old′ length′ → WellFormed plan
+  pub hung : (plan old out old′ count : List ℕ) → PassesPage (asked plan) r old out old′ count → r < 65536
+      → (r ≡ 0) × ((numbers : List ℕ) × of-pages.Theorems (asked plan) numbers (take (getD count 0 0) out))
+  pub hangs : (plan old out old′ count : List ℕ) → PassesPage (asked plan) r old out old′ count → WellFormed plan
       → (numbers : List ℕ) → TellsNeeds (meaning plan) numbers → length (page (meaning plan) numbers) ≤ length old → 1 ≤ length old′
-      → (r ≡ 0) × (getD length′ 0 0 ≡ length (page (meaning plan) numbers))
-  pub hung-needs : (plan old out old′ length′ : List ℕ) → PassesPage (asked plan) r old out old′ length′ → r < 65536
+      → (r ≡ 0) × (getD count 0 0 ≡ length (page (meaning plan) numbers))
+  pub hung-needs : (plan old out old′ count : List ℕ) → PassesPage (asked plan) r old out old′ count → r < 65536
       → (answer : ℕ) (old″ needs : List ℕ) → PassesNeeds (asked plan) answer old″ needs → answer < 65536
-      → take (getD length′ 0 0) out ≡ page (meaning plan) (take answer needs)
+      → take (getD count 0 0) out ≡ page (meaning plan) (take answer needs)
