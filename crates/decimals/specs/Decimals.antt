@@ -13,7 +13,7 @@ unfoldable pub digits : ℕ → ℕ → List ℕ
 digits zero x = (48 + x % 10) ∷ []
 digits (suc c) x = cond (ltb x 10) [] (digits c (x / 10)) ++ ((48 + x % 10) ∷ [])
 
--- A number as it is printed: it has no more digits in front of its last than it counts, so that x itself is bound enough.
+-- A number as it is printed: x has at most x digits in front of its last, so that x itself is bound enough.
 unfoldable pub decimal : ℕ → List ℕ
 decimal x = digits x x
 

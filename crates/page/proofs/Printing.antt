@@ -10,8 +10,7 @@ use lib.ListN.{length}
 use borrow.Author.Tests.{lt-ltb, le-ltb}
 use Rattle.slices.specs.Copying.{atFront}
 use Rattle.slices.specs.Appending.{Room, Appended}
-use Rattle.semiautomata.specs.Sizes.{Sized}
-use Rattle.plan.specs.Asked.{Asked, refusalOf, Passes}
+use Rattle.plan.specs.Asked.{refusalOf, Passes}
 use Rattle.plan.specs.Bytes.{asked, refusal}
 use Rattle.plan.proofs.Asked.{clear-passes, refused-passing, unread}
 use Rattle.plan.proofs.Refusals.{asked-proper}
@@ -20,9 +19,9 @@ use Rattle.lines.specs.Lines.{refusedLine}
 use Rattle.lines.proofs.Widths.{refused-width}
 use Rattle.pages.specs.declared.Page.the-variants.{Bytes, Refused}
 use Rattle.pages.specs.Page.{page, maxPage}
-use Rattle.pages.specs.Paging.{pageRefusal, PageOf}
+use Rattle.pages.specs.Paging.{PageOf}
 use Rattle.pages.proofs.Theorems.{most}
-use Rattle.page.specs.Printing.{inputRefusal, Shows, refused, hung, Prints}
+use Rattle.page.specs.Printing.{inputRefusal, refused, shown, Prints}
 
 nine≢0 : ¬ (_≡_ {A = ℕ} 9 0)
 nine≢0 e = omega arith
@@ -69,7 +68,7 @@ module _ (input : List ℕ) {old : List ℕ} where
         ] in
         record {
           text = text;
-          shows = hung (is-refusal input e ∙ w) (p .numbers) (p .tells w);
+          shows = shown (is-refusal input e ∙ w) (p .numbers) (p .tells w);
           put = appended-at-front fits c is;
         }
 

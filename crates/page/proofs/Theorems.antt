@@ -1,8 +1,8 @@
 -- The theorems of specs/Theorems.antt.
 -- Assumes nothing.
 use Prim.Native.Nat.{ℕ, _≤_}
-use mathlib.Core.Bool.{true, false}
-use mathlib.Core.Path.{_≡_, refl, sym, _∙_, ap}
+use mathlib.Core.Bool.{false}
+use mathlib.Core.Path.{_≡_, refl, sym, _∙_}
 use mathlib.Core.Logic.{inl, inr}
 use mathlib.Core.List.{List, [], _∷_, _++_}
 use native.Mathlib.Omega.{arith}
@@ -15,26 +15,25 @@ use Rattle.semiautomata.specs.Sizes.{endless, unmeasured}
 use Rattle.semiautomata.specs.Levels.{live, clashIn}
 use Rattle.semiautomata.specs.Access.{accessible, accessibleBy}
 use Rattle.plan.specs.Asked.{refusalOf}
-use Rattle.plan.specs.Bytes.{meaning, refusal, planChecks, WellFormed}
+use Rattle.plan.specs.Bytes.{meaning, planChecks, WellFormed}
 use Rattle.plan.proofs.Refusals.{asked-proper}
 use Rattle.needs.proofs.Computed.{tells-so}
 use Rattle.inputs.specs.Inputs.{planOf, noPlan, wanted}
 use Rattle.inputs.proofs.Inputs.{still-plan, same-plan, told-wanted}
 use Rattle.needs.specs.Needs.{TellsNeeds}
 use Rattle.needs.proofs.Theorems.{tells-unique}
-use Rattle.lines.specs.Lines.{refusedLine}
 use Rattle.pages.specs.Page.{page, line}
-use Rattle.page.specs.Printing.{inputRefusal, Shows, refused, hung}
-use Rattle.page.specs.Theorems.{sampleInput, sampleText, Theorems}
+use Rattle.page.specs.Printing.{inputRefusal, Shows, refused, shown}
+use Rattle.page.specs.Theorems.{sampleInput, SampleShown, Theorems}
 
 one≢0 : ¬ (_≡_ {A = ℕ} 1 0)
 one≢0 e = omega arith
 
 unique : {input : List ℕ} (a b : List ℕ) → Shows input a → Shows input b → a ≡ b
 unique a b (refused n) (refused m) = refl
-unique a b (refused n) (hung z _ _) = absurd (n z)
-unique a b (hung z _ _) (refused n) = absurd (n z)
-unique a b (hung _ numbers t) (hung _ others u) = rw (tells-unique numbers others t u)
+unique a b (refused n) (shown z _ _) = absurd (n z)
+unique a b (shown z _ _) (refused n) = absurd (n z)
+unique a b (shown _ numbers t) (shown _ others u) = rw (tells-unique numbers others t u)
 
 -- an input that is not refused has a plan
 has-plan : (input : List ℕ) → inputRefusal input ≡ 0 → noPlan input ≡ false
@@ -52,9 +51,9 @@ module _ (input rest : List ℕ) (enough : wanted input ≤ length input) where
 
   behind : (text : List ℕ) → Shows input text → Shows (input ++ rest) text
   behind text (refused n) = rw (← same-refusal) (refused (λ z. n (sym same-refusal ∙ z)))
-  behind text (hung z numbers t) =
+  behind text (shown z numbers t) =
       let same = same-plan input (has-plan input z) rest in
-      rw (← same) (hung (same-refusal ∙ z) numbers (rw same t))
+      rw (← same) (shown (same-refusal ∙ z) numbers (rw same t))
 
 -- THE SAMPLE, by computing
 
@@ -89,9 +88,9 @@ sample-tells =
     let z = asked-proper (planOf sampleInput) .sized well-formed in
     tells-so (meaning (planOf sampleInput)) (z .within) (z .n-high) sampleNumbers refl
 
-sample : Shows sampleInput sampleText
+pub sample : SampleShown
 unfolding inputRefusal noPlan refusalOf planChecks any page line right left decimal digits each size
-sample = hung refl sampleNumbers sample-tells
+sample = shown refl sampleNumbers sample-tells
 
 pub theorems : (input : List ℕ) → Theorems input
-theorems input = record { unique = unique; behind = λ rest text h s. behind input rest h text s; sample = sample }
+theorems input = record { unique = unique; behind = λ rest text h s. behind input rest h text s }

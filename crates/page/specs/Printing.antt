@@ -20,7 +20,7 @@ inputRefusal input = cond (noPlan input) 1 (refusal (planOf input))
 -- What is printed of it.
 pub data Shows (input : List ℕ) : List ℕ → Type 0 where
   refused : ¬ (inputRefusal input ≡ 0) → Shows input (refusedLine (inputRefusal input))
-  hung : inputRefusal input ≡ 0 → (numbers : List ℕ) → TellsNeeds (meaning (planOf input)) numbers
+  shown : inputRefusal input ≡ 0 → (numbers : List ℕ) → TellsNeeds (meaning (planOf input)) numbers
       → Shows input (page (meaning (planOf input)) numbers)
 
 -- It is written at the front of a buffer, which keeps its rest, and r is how many bytes it has.

@@ -35,10 +35,12 @@ sampleText =
     ++ shownSo 52 48 45 (35 ∷ 35 ∷ [])
     ++ shownSo 53 48 48 (35 ∷ [])
 
+-- The sample shows its seven lines.
+abbrev pub SampleShown : Type 0
+SampleShown = Shows sampleInput sampleText
+
 pub record Theorems (input : List ℕ) : Type 0 where
   -- an input shows one text
   pub unique : (a b : List ℕ) → Shows input a → Shows input b → a ≡ b
   -- where the plan is there whole, or it is seen that there is none, what comes later changes nothing
   pub behind : (rest text : List ℕ) → wanted input ≤ length input → Shows input text → Shows (input ++ rest) text
-  -- the sample shows its seven lines
-  pub sample : Shows sampleInput sampleText

@@ -1,6 +1,6 @@
 // The page program (document 02, W-206): plan bytes from standard input, their page to standard output; a refusal is a line, as in the
-// report. What is printed is proved (`page_of`); here bytes are read and written. No more is read than the plan, so that its page is there
-// as soon as it is. What could not be read or written is said on standard error, and nothing more is written.
+// report. What is printed is proved (`page_of`); here bytes are read and written, no more of them than are wanted for the plan, so that
+// its page is there as soon as it is. What could not be read or written is said on standard error, and nothing more is written.
 ghost use Prim.Native.Nat.{_-_, _≤_};
 ghost use lib.ListN.{length};
 ghost use Rattle.pages.specs.Page.{maxPage};

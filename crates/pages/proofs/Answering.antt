@@ -13,7 +13,6 @@ use Rattle.bitset.specs.Sets.{size}
 use Rattle.bitset.specs.Numbers.{has}
 use Rattle.bitset.proofs.Below.{size-cong}
 use Rattle.bitset.proofs.Members.{ones-size}
-use Rattle.slices.specs.Copying.{atFront}
 use Rattle.slices.specs.Appending.{each, Room, Appended}
 use Rattle.slices.proofs.Appending.{appended-front}
 use Rattle.slices.proofs.Each.{each-cong}
@@ -25,12 +24,12 @@ use Rattle.semiautomata.proofs.Places.{place-fits}
 use Rattle.plan.specs.Asked.{Asked, refusalOf, Passes, Proper}
 use Rattle.plan.specs.Loading.{Holds}
 use Rattle.plan.proofs.Asked.{refused-passing, unread}
-use Rattle.needs.specs.Needs.{entries, TellsNeeds, Filled}
+use Rattle.needs.specs.Needs.{Filled}
 use Rattle.pages.specs.declared.Page.{Page}
 use Rattle.pages.specs.declared.Page.the-variants.{Bytes, Refused}
-use Rattle.pages.specs.Page.{entryOf, page, linesBefore, pageLine}
+use Rattle.pages.specs.Page.{shownOf, textOf, page, linesBefore, pageLine}
 use Rattle.pages.specs.Paging.{PageOf}
-use Rattle.pages.specs.inner.Rows.{states, startsShown, forkShown, rowShown}
+use Rattle.pages.specs.inner.Rows.{states, rowShown}
 use Rattle.pages.specs.inner.Sets.{PageBy}
 use Rattle.pages.proofs.Counting.{page-long}
 
@@ -47,13 +46,13 @@ module _ (n m starts : ℕ) (sets : List ℕ) (F : Fit n m sets) (H : starts < 2
       states-are (setAt m sets q a) (place-fits F q a h g) ∙ size-cong n _ _ (λ t _. sym (edge-is n m starts sets q a t h g))
 
   -- what is put is the page
-  pub put-page : (numbers : List ℕ) → startsShown (getD numbers 0 0) starts ++ each n (rowShown m numbers sets) ≡ page S numbers
+  pub put-page : (numbers : List ℕ) → shownOf initial (getD numbers 0 0) (states starts) ++ each n (rowShown m numbers sets) ≡ page S numbers
   unfolding page
   put-page numbers =
       rw (states-are starts H)
-      (ap (λ (forks : List ℕ). entryOf S numbers initial ++ forks)
-      (each-cong n (rowShown m numbers sets) (λ q. each m (λ a. entryOf S numbers (fork q a)))
-      (λ q h. each-cong m (λ a. forkShown q a (getD numbers (place m q a + 1) 0) (setAt m sets q a)) (λ a. entryOf S numbers (fork q a))
+      (ap (λ (forks : List ℕ). textOf S numbers initial ++ forks)
+      (each-cong n (rowShown m numbers sets) (λ q. each m (λ a. textOf S numbers (fork q a)))
+      (λ q h. each-cong m (λ a. shownOf (fork q a) (getD numbers (place m q a + 1) 0) (states (setAt m sets q a))) (λ a. textOf S numbers (fork q a))
       (λ a g. rw (fork-states q a h g)))))
 
   -- THE NUMBERS that are lent on: as many as there are sets
@@ -74,11 +73,11 @@ module _ (n m starts : ℕ) (sets : List ℕ) (F : Fit n m sets) (H : starts < 2
 
       -- there is room for all of it
       pub by-room : 41 * count ≤ length page₀
-          → Room page₀ 0 (startsShown (getD (take (n * m + 1) room) 0 0) starts ++ each n (rowShown m (take (n * m + 1) room) sets))
+          → Room page₀ 0 (shownOf initial (getD (take (n * m + 1) room) 0 0) (states starts) ++ each n (rowShown m (take (n * m + 1) room) sets))
       by-room h = rw (lent, put-page (f .numbers)) (record { fits = omega (arith, h, c, long) })
 
       pub by-put : 41 * count ≤ length page₀ → {r : ℕ} {out : List ℕ}
-          → Appended page₀ 0 (startsShown (getD (take (n * m + 1) room) 0 0) starts ++ each n (rowShown m (take (n * m + 1) room) sets)) r out
+          → Appended page₀ 0 (shownOf initial (getD (take (n * m + 1) room) 0 0) (states starts) ++ each n (rowShown m (take (n * m + 1) room) sets)) r out
           → PageBy S (Bytes r) page₀ out
       by-put h {r} {out} p =
           let (e, is) = appended-front (rw (lent, put-page (f .numbers)) at p) in record {

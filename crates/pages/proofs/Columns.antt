@@ -16,9 +16,8 @@ use Rattle.decimals.specs.Decimals.{decimal, blanks, right, left}
 use Rattle.decimals.proofs.Digits.{decimal-length}
 use Rattle.decimals.proofs.Columns.{drop-row, right-long, left-long}
 use Rattle.semiautomata.specs.Sizes.{endless, unmeasured}
-use Rattle.pages.specs.inner.Rows.{label, rest}
-use Rattle.semiautomata.specs.Predictability.{initial}
-use Rattle.pages.specs.Page.{stateText, letterText, needText, longestBar, bar, line, pageLine, shown}
+use Rattle.semiautomata.specs.Predictability.{Critical, initial}
+use Rattle.pages.specs.Page.{stateText, letterText, needText, longestBar, bar, label, tail, line, pageLine, shownOf}
 
 -- all columns of a part made blank
 pub made : (xs old : List ℕ) {columns : List ℕ} → length old ≡ length xs → columns ≡ atFront xs old → columns ≡ xs
@@ -74,10 +73,10 @@ pub label-put : {b l s : List ℕ} (state letter : List ℕ) → b ≡ blanks 9 
     → s ++ drop 4 (take 5 b ++ (l ++ drop 4 (drop 5 b))) ≡ state ++ blanks 1 ++ letter
 label-put state letter b l s = rw (b, l, s, append-nil) (sym (append-snoc state 32 letter))
 
-pub rest-put : {b g n : List ℕ} (need signs : List ℕ) → b ≡ blanks 31 ++ (10 ∷ []) → g ≡ signs → n ≡ need
+pub tail-put : {b g n : List ℕ} (need signs : List ℕ) → b ≡ blanks 31 ++ (10 ∷ []) → g ≡ signs → n ≡ need
     → take 1 (take 8 b ++ (g ++ drop 23 (drop 8 b))) ++ (n ++ drop 6 (drop 1 (take 8 b ++ (g ++ drop 23 (drop 8 b)))))
     ≡ blanks 1 ++ need ++ blanks 1 ++ signs ++ (10 ∷ [])
-rest-put need signs b g n = rw (b, g, n) (simp append-assoc)
+tail-put need signs b g n = rw (b, g, n) (simp append-assoc)
 
 -- .. have nine and 32 bytes
 pub label-long : (q a : ℕ) → q < 64 → a < 32 → length (label (decimal q) (decimal a)) ≡ 9
@@ -87,8 +86,8 @@ label-long q a h g = simp length-append (omega (
   right-long 4 (decimal a) (decimal-length 3 a (omega arith)),
 ))
 
-pub rest-long : (v count : ℕ) → length (needText v) ≤ 6 → length (rest v count) ≡ 32
-rest-long v count h =
+pub tail-long : (v count : ℕ) → length (needText v) ≤ 6 → length (tail v count) ≡ 32
+tail-long v count h =
     simp length-append (omega (arith, right-long 6 (needText v) h, left-long longestBar (bar count) (bar-short count)))
 
 -- a part of a buffer that is filled whole
@@ -102,35 +101,24 @@ part-filled old at w {text} l h e =
       is = rw (e, d, drop-drop (length text) at old) (sym (append-assoc (take at old) text (drop (at + length text) old)));
     }
 
--- in two parts: the first nine columns, and the rest
-regroup : (f a b c d e : List ℕ) → f ++ a ++ b ++ c ++ d ++ e ≡ f ++ (a ++ b ++ c ++ d ++ e)
-regroup f a b c d e = simp append-assoc
-
-pub line-parts : (state letter : List ℕ) (v count : ℕ)
-    → line state letter v count ≡ label state letter ++ rest v count
-unfolding line
-line-parts state letter v count =
-    regroup (label state letter) (blanks 1) (right 6 (needText v)) (blanks 1) (left longestBar (bar count)) (10 ∷ [])
-
-two-parts : (state letter : List ℕ) {v : ℕ} (count : ℕ) → ¬ (v ≡ unmeasured)
-    → shown v (line state letter v count) ≡ label state letter ++ rest v count
-two-parts state letter {v} count ne = rw (ne-eqb v unmeasured ne) (line-parts state letter v count)
-
--- what is put of a set: nothing, or the two parts of its line
-module _ (state letter : List ℕ) (v count : ℕ) {old : List ℕ} {at : ℕ} where
-  pub put-nothing : v ≡ unmeasured → Room old at (shown v (line state letter v count)) → Appended old at (shown v (line state letter v count)) at old
+-- what is put of a set: nothing, or the two halves of its line
+module _ (T : Critical) (v count : ℕ) {old : List ℕ} {at : ℕ} where
+  pub put-nothing : v ≡ unmeasured → Room old at (shownOf T v count) → Appended old at (shownOf T v count) at old
   put-nothing e h = rw (eq-eqb v unmeasured e) (appended-none at (omega (arith, h .fits)))
 
   module _ (ne : ¬ (v ≡ unmeasured)) where
-    pub label-room : Room old at (shown v (line state letter v count)) → Room old at (label state letter)
-    label-room h = room-left (label state letter) (rest v count) (rw (two-parts state letter count ne) at h)
+    pub label-room : Room old at (shownOf T v count) → Room old at (label (stateText T) (letterText T))
+    unfolding line
+    label-room h = room-left (label (stateText T) (letterText T)) (tail v count) (rw (ne-eqb v unmeasured ne) at h)
 
-    module _ {r : ℕ} {mid : List ℕ} (p : Appended old at (label state letter) r mid) where
-      pub rest-room : Room old at (shown v (line state letter v count)) → Room mid r (rest v count)
-      rest-room h = room-on p (rw (two-parts state letter count ne) at h)
+    module _ {r : ℕ} {mid : List ℕ} (p : Appended old at (label (stateText T) (letterText T)) r mid) where
+      pub tail-room : Room old at (shownOf T v count) → Room mid r (tail v count)
+      unfolding line
+      tail-room h = room-on p (rw (ne-eqb v unmeasured ne) at h)
 
-      pub put-line : {q : ℕ} {out : List ℕ} → Appended mid r (rest v count) q out → Appended old at (shown v (line state letter v count)) q out
-      put-line p′ = rw (two-parts state letter count ne) (appended-on p p′)
+      pub put-line : {q : ℕ} {out : List ℕ} → Appended mid r (tail v count) q out → Appended old at (shownOf T v count) q out
+      unfolding line
+      put-line p′ = rw (ne-eqb v unmeasured ne) (appended-on p p′)
 
 -- the first nine columns of the initial states
 pub starts-label : label (stateText initial) (letterText initial) ≡ 102 ∷ 114 ∷ 111 ∷ 109 ∷ 32 ∷ 32 ∷ 32 ∷ 32 ∷ 32 ∷ []

@@ -15,7 +15,7 @@ use Rattle.slices.specs.Appending.{each}
 use Rattle.slices.proofs.Each.{each-cong, each-add, each-rows}
 use Rattle.decimals.proofs.Digits.{decimal-length}
 use Rattle.semiautomata.specs.Semiautomaton.{Semiautomaton, Within}
-use Rattle.semiautomata.specs.Predictability.{Critical, initial, fork, member}
+use Rattle.semiautomata.specs.Predictability.{Critical, initial, fork}
 use Rattle.semiautomata.specs.Sizes.{maxStates, maxLetters, endless, unmeasured}
 use Rattle.semiautomata.specs.Successors.{place}
 use Rattle.semiautomata.proofs.Successors.{state-lt, letter-lt, place-of, place-lt}
@@ -23,7 +23,7 @@ use Rattle.semiautomata.proofs.Places.{place-same}
 use Rattle.needs.specs.Needs.{Of, placeOf, entries, TellsNeeds}
 use Rattle.needs.proofs.Largest.{place-of-lt}
 use Rattle.needs.proofs.Theorems.{bound, most}
-use Rattle.pages.specs.Page.{stateText, letterText, needText, lineOf, entryOf, page, linesBefore, pageLine}
+use Rattle.pages.specs.Page.{stateText, letterText, needText, lineOf, statesOf, textOf, page, linesBefore, pageLine}
 use Rattle.pages.proofs.Columns.{need-short, line-long}
 use Rattle.pages.proofs.Rows.{row-at, all-long}
 
@@ -93,7 +93,7 @@ module _ {S : Semiautomaton} (W : Within S) (few : S .n ≤ maxStates) (letters 
   texts-short T o ne = (state-short T o, letter-short T o, need-short _ (small T o ne))
 
   pub line-41 : (T : Critical) → Of S T → ¬ (getD numbers (placeOf S T) 0 ≡ unmeasured)
-      → length (lineOf S T (getD numbers (placeOf S T) 0)) ≡ pageLine
+      → length (lineOf T (getD numbers (placeOf S T) 0) (statesOf S T)) ≡ pageLine
   line-41 T o ne = let (s, l, n) = texts-short T o ne in line-long _ _ _ _ s l n
 
   -- the set at a place has its number there
@@ -101,11 +101,11 @@ module _ {S : Semiautomaton} (W : Within S) (few : S .n ≤ maxStates) (letters 
   number-at i h = ap (λ (x : ℕ). getD numbers x 0) (place-set S i h .1)
 
   abbrev textAt : ℕ → List ℕ
-  textAt i = lineOf S (atPlace S i) (getD numbers (placeOf S (atPlace S i)) 0)
+  textAt i = lineOf (atPlace S i) (getD numbers (placeOf S (atPlace S i)) 0) (statesOf S (atPlace S i))
 
   page-rows : page S numbers ≡ each (entries S) (λ i. cond (eqb (getD numbers i 0) unmeasured) [] (textAt i))
   unfolding page
-  page-rows = flat S (entryOf S numbers) ∙ each-cong (entries S) _ _ (λ i h. rw (number-at i h))
+  page-rows = flat S (textOf S numbers) ∙ each-cong (entries S) _ _ (λ i h. rw (number-at i h))
 
   long-at : (i : ℕ) → i < entries S → eqb (getD numbers i 0) unmeasured ≡ false → length (textAt i) ≡ pageLine
   long-at i h e = line-41 (atPlace S i) (place-set S i h .0) (rw (number-at i h) (eqb-false _ _ e))
@@ -114,7 +114,7 @@ module _ {S : Semiautomaton} (W : Within S) (few : S .n ≤ maxStates) (letters 
   page-long = rw page-rows (all-long (λ i. eqb (getD numbers i 0) unmeasured) textAt (entries S) long-at)
 
   pub line-at : (T : Critical) → Of S T → ¬ (getD numbers (placeOf S T) 0 ≡ unmeasured)
-      → take pageLine (drop (pageLine * linesBefore numbers (placeOf S T)) (page S numbers)) ≡ lineOf S T (getD numbers (placeOf S T) 0)
+      → take pageLine (drop (pageLine * linesBefore numbers (placeOf S T)) (page S numbers)) ≡ lineOf T (getD numbers (placeOf S T) 0) (statesOf S T)
   line-at T o ne =
       rw page-rows
       (row-at (λ i. eqb (getD numbers i 0) unmeasured) textAt (entries S) long-at (placeOf S T) (place-of-lt S T o) (ne-eqb _ _ ne)

@@ -1,6 +1,6 @@
 -- The theorems of specs/Theorems.antt.
 -- Assumes nothing.
-use Prim.Native.Nat.{ℕ, zero, suc, _+_, _-_, _*_, _≤_, _<_}
+use Prim.Native.Nat.{ℕ, _+_, _-_, _*_, _≤_, _<_}
 use mathlib.Core.Bool.{Bool, true, false, not, false≢true}
 use mathlib.Core.Path.{_≡_, refl, sym, _∙_, ap}
 use mathlib.Core.List.{List, [], _∷_, _++_, append-assoc, append-nil}
@@ -14,23 +14,22 @@ use borrow.Author.Tests.{eq-eqb, eqb-false, not-true, le-ltb}
 use Rattle.bitset.specs.Sets.{size}
 use Rattle.bitset.proofs.Below.{size-none}
 use Rattle.refusals.specs.Outcomes.{answered, refused}
-use Rattle.slices.specs.Copying.{atFront}
 use Rattle.decimals.specs.Decimals.{blanks, right, left}
 use Rattle.decimals.proofs.Columns.{right-long, left-long}
-use Rattle.semiautomata.specs.Semiautomaton.{Semiautomaton, Within}
+use Rattle.semiautomata.specs.Semiautomaton.{Semiautomaton}
 use Rattle.semiautomata.specs.Sizes.{Sized, endless, unmeasured}
 use Rattle.semiautomata.specs.Predictability.{Critical, initial, fork, member}
 use Rattle.plan.specs.Asked.{Asked, refusalOf, Passes, Proper}
 use Rattle.plan.proofs.Asked.{clear-passes, refused-passing, unread}
 use Rattle.needs.specs.declared.Needs.the-variants.{Entries}
 use Rattle.needs.specs.Needs.{Measured, Of, placeOf, entries, TellsNeeds, NeedsOf}
-use Rattle.needs.proofs.Largest.{each-place, place-of-lt}
+use Rattle.needs.proofs.Largest.{each-place}
 use Rattle.needs.proofs.Theorems.{tells-unique, met as needs-met}
 use Rattle.pages.specs.declared.Page.{Page}
 use Rattle.pages.specs.declared.Page.the-variants.{Bytes, Refused}
-use Rattle.pages.specs.Page.{stateText, letterText, needText, longestBar, bar, line, lineOf, pageLine, page, linesBefore, maxPage}
+use Rattle.pages.specs.Page.{stateText, letterText, needText, longestBar, bar, line, lineOf, statesOf, page, linesBefore, lineCount, maxPage}
 use Rattle.pages.specs.Paging.{outcomeOfPage, pageRefusal, PageOf}
-use Rattle.pages.specs.Theorems.{lineAt, columns, InColumns, Theorems, Calls, Met}
+use Rattle.pages.specs.Theorems.{lineAt, cut, InColumns, Theorems, Met}
 use Rattle.pages.proofs.Columns.{bar-short}
 use Rattle.pages.proofs.Rows.{size-reach, size-mono, size-most}
 use Rattle.pages.proofs.Counting.{texts-short, line-41, page-long, line-at, lines-next-with}
@@ -49,11 +48,11 @@ module _ (p₁ p₂ p₃ p₄ p₅ p₆ p₇ p₈ : List ℕ) where
   module _ (l₁ : length p₁ ≡ 4) (l₂ : length p₂ ≡ 1) (l₃ : length p₃ ≡ 4) (l₄ : length p₄ ≡ 1) (l₅ : length p₅ ≡ 6) (l₆ : length p₆ ≡ 1)
       (l₇ : length p₇ ≡ 23) (l₈ : length p₈ ≡ 1) where
     abbrev Cut : Type 0
-    Cut = (columns 1 4 eight ≡ p₁) × (columns 5 5 eight ≡ p₂) × (columns 6 9 eight ≡ p₃) × (columns 10 10 eight ≡ p₄)
-        × (columns 11 16 eight ≡ p₅) × (columns 17 17 eight ≡ p₆) × (columns 18 40 eight ≡ p₇) × (columns 41 41 eight ≡ p₈)
+    Cut = (cut 1 4 eight ≡ p₁) × (cut 5 5 eight ≡ p₂) × (cut 6 9 eight ≡ p₃) × (cut 10 10 eight ≡ p₄)
+        × (cut 11 16 eight ≡ p₅) × (cut 17 17 eight ≡ p₆) × (cut 18 40 eight ≡ p₇) × (cut 41 41 eight ≡ p₈)
 
-    cut : Cut
-    cut = (
+    cuts : Cut
+    cuts = (
       part eight [] p₁ (p₂ ++ p₃ ++ p₄ ++ p₅ ++ p₆ ++ p₇ ++ p₈) 0 4 (simp append-assoc) refl l₁,
       part eight p₁ p₂ (p₃ ++ p₄ ++ p₅ ++ p₆ ++ p₇ ++ p₈) 4 1 (simp append-assoc) l₁ l₂,
       part eight (p₁ ++ p₂) p₃ (p₄ ++ p₅ ++ p₆ ++ p₇ ++ p₈) 5 4 (simp append-assoc) (simp length-append (omega arith)) l₃,
@@ -73,24 +72,32 @@ empty : (l : List ℕ) → length l ≡ 0 → l ≡ []
 empty [] e = refl
 empty (x ∷ l) e = absurd (omega arith)
 
+-- a line has eight parts
+line-eight : (state letter : List ℕ) (v count : ℕ)
+    → line state letter v count
+    ≡ eight (right 4 state) (blanks 1) (right 4 letter) (blanks 1) (right 6 (needText v)) (blanks 1) (left longestBar (bar count)) (10 ∷ [])
+unfolding line
+line-eight state letter v count = simp append-assoc
+
 module _ {S : Semiautomaton} (Z : Sized S) {numbers : List ℕ} (t : TellsNeeds S numbers) where
   in-columns : (T : Critical) → Of S T → ¬ (getD numbers (placeOf S T) 0 ≡ unmeasured)
-      → InColumns S T (getD numbers (placeOf S T) 0) (lineOf S T (getD numbers (placeOf S T) 0))
-  unfolding line
+      → InColumns S T (getD numbers (placeOf S T) 0) (lineOf T (getD numbers (placeOf S T) 0) (statesOf S T))
   in-columns T o ne =
+      let v = getD numbers (placeOf S T) 0 in
       let (s, l, n) = texts-short (Z .within) (Z .n-high) (Z .m-high) t T o ne in
-      let (c₁, c₂, c₃, c₄, c₅, c₆, c₇, c₈) = cut _ _ _ _ _ _ _ _ (right-long 4 (stateText T) s) refl (right-long 4 (letterText T) l) refl
-      (right-long 6 (needText (getD numbers (placeOf S T) 0)) n) refl (left-long 23 (bar (size (S .n) (member S T))) (bar-short (size (S .n) (member S T)))) refl in
+      let e = line-eight (stateText T) (letterText T) v (statesOf S T) in
+      let (c₁, c₂, c₃, c₄, c₅, c₆, c₇, c₈) = cuts _ _ _ _ _ _ _ _ (right-long 4 (stateText T) s) refl (right-long 4 (letterText T) l) refl
+      (right-long 6 (needText v) n) refl (left-long 23 (bar (statesOf S T)) (bar-short (statesOf S T))) refl in
       record {
         width = line-41 (Z .within) (Z .n-high) (Z .m-high) t T o ne;
-        state = c₁;
-        column-5 = c₂;
-        letter = c₃;
-        column-10 = c₄;
-        need = c₅;
-        column-17 = c₆;
-        signs = c₇;
-        line-feed = c₈;
+        state = rw e c₁;
+        column-5 = rw e c₂;
+        letter = rw e c₃;
+        column-10 = rw e c₄;
+        need = rw e c₅;
+        column-17 = rw e c₆;
+        bar-is = rw e c₇;
+        line-feed = rw e c₈;
       }
 
   -- A LINE FOR EXACTLY THE SETS THAT COUNT AND ARE NOT EMPTY
@@ -117,14 +124,14 @@ module _ {S : Semiautomaton} (Z : Sized S) {numbers : List ℕ} (t : TellsNeeds 
       rw e at (size-mono some (placeOf S T + 1) (placeOf S U - (placeOf S T + 1))) in
       omega (arith, m, lines-next-with numbers (placeOf S T) (counted T o M))
 
-  each-set : (k : ℕ) → k < linesBefore numbers (length numbers)
+  each-set : (k : ℕ) → k < lineCount numbers
       → (T : Critical) × Of S T × Measured S T × (linesBefore numbers (placeOf S T) ≡ k)
   each-set k h =
       let (i, l, e, is) = size-reach (length numbers) (λ i. not (eqb (getD numbers i 0) unmeasured)) k h in
       let (T, o, at) = each-place S i (omega (arith, l, t .long)) in
       (T, o, measured T o (rw at (eqb-false _ _ (not-true _ e))), rw at is)
 
-  bytes : length (page S numbers) ≡ 41 * linesBefore numbers (length numbers)
+  bytes : length (page S numbers) ≡ 41 * lineCount numbers
   bytes = rw (t .long) (page-long (Z .within) (Z .n-high) (Z .m-high) t)
 
   pub most : length (page S numbers) ≤ maxPage
@@ -152,6 +159,18 @@ module _ (A : Asked) (P : Proper A) where
     pub same-numbers : (numbers : List ℕ) → TellsNeeds (A .means) numbers → p .numbers ≡ numbers
     same-numbers numbers t = tells-unique (p .numbers) numbers (p .tells w) t
 
+  theorems-of : Passes A → (numbers : List ℕ) → TellsNeeds (A .means) numbers → Theorems A numbers (page (A .means) numbers)
+  theorems-of w numbers t = let Z = P .sized w in record {
+    tells = t;
+    is = refl;
+    each-line = each-line Z t;
+    in-order = in-order Z t;
+    each-set = each-set Z t;
+    bytes = bytes Z t;
+    most = most Z t;
+    no-starts = no-starts Z t;
+  }
+
   module _ (count : ℕ) (old out : List ℕ) (p : PageOf A (Bytes count) old out) where
     pub passes : Passes A
     passes = clear-passes A P _ (p .gives .0)
@@ -159,20 +178,8 @@ module _ (A : Asked) (P : Proper A) where
     pub at-front : take count out ≡ page (A .means) (p .numbers)
     at-front = let (_, (e, is)) = p .gives in rw (e, is) (take-append-seam (page (A .means) (p .numbers)) _)
 
-    sized : Sized (A .means)
-    sized = P .sized passes
-
     theorems : Theorems A (p .numbers) (take count out)
-    theorems = rw at-front (record {
-      tells = p .tells passes;
-      is = refl;
-      each-line = each-line sized (p .tells passes);
-      in-order = in-order sized (p .tells passes);
-      each-set = each-set sized (p .tells passes);
-      bytes = bytes sized (p .tells passes);
-      most = most sized (p .tells passes);
-      no-starts = no-starts sized (p .tells passes);
-    })
+    theorems = rw at-front (theorems-of passes (p .numbers) (p .tells passes))
 
     of-needs : (entries : ℕ) (old′ needs : List ℕ) → NeedsOf A (Entries entries) old′ needs
         → take count out ≡ page (A .means) (take entries needs)
@@ -187,6 +194,16 @@ module _ (A : Asked) (P : Proper A) where
       let (e, n, _) = p .gives in
       let fits : length (page (A .means) (p .numbers)) ≤ length old = rw (same-numbers p w numbers t) room in
       absurd (n (e ∙ refused-passing A P w _ ∙ rw (le-ltb (length old) (length (page (A .means) (p .numbers))) fits)))
+
+  enough : Passes A → (a : Page) (old out : List ℕ) → maxPage ≤ length old → PageOf A a old out
+      → (numbers : List ℕ) × Theorems A numbers (page (A .means) numbers) × (outcomeOfPage a ≡ answered (length (page (A .means) numbers)))
+  enough w a old out room p =
+      let t = p .tells w in
+      let fits = most (P .sized w) t in (
+        p .numbers,
+        theorems-of w (p .numbers) t,
+        answers w (p .numbers) t a old out (omega (arith, fits, room)) p,
+      )
 
   -- two calls with as many bytes lent have the same refusal
   same-refusal : {a b : Page} {old out out′ : List ℕ} (p : PageOf A a old out) (q : PageOf A b old out′)
@@ -213,6 +230,7 @@ module _ (A : Asked) (P : Proper A) where
 pub met : Met
 met A P = record {
   answers = answers A P;
+  enough = enough A P;
   written = λ count old out p. (p .numbers, theorems A P count old out p);
   of-needs = λ count entries old out old′ needs p n. of-needs A P count old out p entries old′ needs n;
   same = same A P;

@@ -22,9 +22,13 @@ outcomeOfPage (Refused r) = refused r
 abbrev pub pageRefusal : Asked → List ℕ → ℕ → ℕ
 pageRefusal A text size = refusalWith A (ltb size (length text))
 
--- What the call gives: the page of the numbers that tell the needs, at the front of the lent bytes, which keep their rest.
+-- What a call gives that has this refusal and this page: it stands at the front of the lent bytes, which keep their rest.
+abbrev pub PageGives : ℕ → List ℕ → Page → List ℕ → List ℕ → Type 0
+PageGives refusal text a old out =
+    Gives refusal (out ≡ old) (λ count. (count ≡ length text) × (out ≡ atFront text old)) (outcomeOfPage a)
+
+-- What the call gives: the page of the numbers that tell the needs.
 pub record PageOf (A : Asked) (a : Page) (old out : List ℕ) : Type 0 where
   pub numbers : List ℕ
   pub tells : Passes A → TellsNeeds (A .means) numbers
-  pub gives : let text = page (A .means) numbers in
-      Gives (pageRefusal A text (length old)) (out ≡ old) (λ count. (count ≡ length text) × (out ≡ atFront text old)) (outcomeOfPage a)
+  pub gives : let text = page (A .means) numbers in PageGives (pageRefusal A text (length old)) text a old out

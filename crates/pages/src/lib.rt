@@ -5,12 +5,13 @@ ghost use Prim.Native.Nat.{_+_, _*_, _^_, min, _≤_, _<_};
 ghost use lib.ListN.{length};
 ghost use Rattle.slices.specs.Appending.{each, Room, Appended};
 ghost use Rattle.decimals.specs.Decimals.{decimal, blanks, right, left};
+ghost use Rattle.semiautomata.specs.Predictability.{initial, fork};
 ghost use Rattle.semiautomata.specs.Successors.{successors, Fit};
 ghost use Rattle.plan.specs.Bytes.{asked};
-ghost use Rattle.pages.specs.Page.{needText, longestBar, bar, linesBefore};
+ghost use Rattle.pages.specs.Page.{needText, longestBar, bar, label, tail, shownOf, lineCount};
 ghost use Rattle.pages.specs.Paging.{PageOf};
 ghost use Rattle.pages.specs.inner.Sets.{PageBy};
-ghost use Rattle.pages.specs.inner.Rows.{states, label, rest, startsShown, forkShown, rowShown};
+ghost use Rattle.pages.specs.inner.Rows.{states, rowShown};
 use needs::UNMEASURED;
 use pairs::lifetimes::ENDLESS;
 use plan::Loaded;
@@ -70,9 +71,9 @@ fn fill_label(columns: &mut [u8], q: usize, a: usize)
 }
 
 // A line from column 10 on: the need, the bar of a set, the line feed.
-fn fill_rest(columns: &mut [u8], need: u16, set: u64)
+fn fill_tail(columns: &mut [u8], need: u16, set: u64)
     requires { ⌜ length (now columns) ≡ 32 ⌝ }
-    ensures { λ _. ⌜ now (columns .exit) ≡ rest need (states set) ⌝ }
+    ensures { λ _. ⌜ now (columns .exit) ≡ tail need (states set) ⌝ }
 {
     slices::copy_8(columns, b"                               \n");
     fill_bar(&mut columns[8..31], u64::count_ones(set));
@@ -89,37 +90,37 @@ fn put_label(out: &mut [u8], at: usize, q: usize, a: usize) -> usize
     end
 }
 
-fn put_rest(out: &mut [u8], at: usize, need: u16, set: u64) -> usize
-    requires { ⌜ Room (now out) at (rest need (states set)) ⌝ }
-    ensures { λ r. ⌜ Appended (now (out .entry)) at (rest need (states set)) r (now (out .exit)) ⌝ }
+fn put_tail(out: &mut [u8], at: usize, need: u16, set: u64) -> usize
+    requires { ⌜ Room (now out) at (tail need (states set)) ⌝ }
+    ensures { λ r. ⌜ Appended (now (out .entry)) at (tail need (states set)) r (now (out .exit)) ⌝ }
 {
     let end = at + 32;
-    fill_rest(&mut out[at..end], need, set);
+    fill_tail(&mut out[at..end], need, set);
     end
 }
 
 // The line of the initial states, if they have one.
 fn put_starts(out: &mut [u8], at: usize, need: u16, set: u64) -> usize
-    requires { ⌜ Room (now out) at (startsShown need set) ⌝ }
-    ensures { λ r. ⌜ Appended (now (out .entry)) at (startsShown need set) r (now (out .exit)) ⌝ }
+    requires { ⌜ Room (now out) at (shownOf initial need (states set)) ⌝ }
+    ensures { λ r. ⌜ Appended (now (out .entry)) at (shownOf initial need (states set)) r (now (out .exit)) ⌝ }
 {
     if need == UNMEASURED {
         return at;
     }
     let end = slices::append(out, at, b"from     ");
-    put_rest(out, end, need, set)
+    put_tail(out, end, need, set)
 }
 
 // The line of a fork set, if it has one.
 fn put_fork(out: &mut [u8], at: usize, q: usize, a: usize, need: u16, set: u64) -> usize
-    requires { ⌜ (q < 64) × (a < 32) × Room (now out) at (forkShown q a need set) ⌝ }
-    ensures { λ r. ⌜ Appended (now (out .entry)) at (forkShown q a need set) r (now (out .exit)) ⌝ }
+    requires { ⌜ (q < 64) × (a < 32) × Room (now out) at (shownOf (fork q a) need (states set)) ⌝ }
+    ensures { λ r. ⌜ Appended (now (out .entry)) at (shownOf (fork q a) need (states set)) r (now (out .exit)) ⌝ }
 {
     if need == UNMEASURED { // no line
         return at;
     }
     let end = put_label(out, at, q, a);
-    put_rest(out, end, need, set)
+    put_tail(out, end, need, set)
 }
 
 // The lines of a state's fork sets.
@@ -150,8 +151,8 @@ fn put_forks(out: &mut [u8], at: usize, needs: &[u16], sets: &[u64], n: usize, m
 }
 
 // How many numbers have a line.
-fn lines(needs: &[u16]) -> usize
-    ensures { λ r. ⌜ (r ≡ linesBefore (now (needs .entry)) (length (now (needs .entry)))) × (r ≤ length (now (needs .entry))) ⌝ }
+fn count_lines(needs: &[u16]) -> usize
+    ensures { λ r. ⌜ (r ≡ lineCount (now (needs .entry))) × (r ≤ length (now (needs .entry))) ⌝ }
 {
     let mut count = 0;
     for i in 0..needs.len() {
@@ -171,7 +172,7 @@ fn of_sets(page: &mut [u8], sets: &[u64], n: usize, m: usize, starts: u64) -> Pa
     let mut room = [0u16; MOST_NEEDS];
     needs::enter(&mut room, sets, n, m, starts);
     let needs = &room[..count];
-    if page.len() < LINE * lines(needs) {
+    if page.len() < LINE * count_lines(needs) {
         return Page::Refused(9);
     }
     let forks_at = put_starts(page, 0, needs[0], starts);

@@ -32,13 +32,13 @@ use Rattle.needs.specs.Theorems.{LookedAhead, SomeEndless}
 use Rattle.needs.specs.Theorems as of-needs
 use Rattle.needs.proofs.Theorems.{looked, needs-few, met}
 use Rattle.pages.specs.declared.Page.{Page}
-use Rattle.pages.specs.declared.Page.the-variants as hung
-use Rattle.pages.specs.Page.{page}
+use Rattle.pages.specs.declared.Page.the-variants as pages
+use Rattle.pages.specs.Page.{page, maxPage}
 use Rattle.pages.specs.Paging.{outcomeOfPage, PageOf}
 use Rattle.pages.proofs.Theorems.{met as pages-met}
 use Rattle.numbers.specs.Numbers.{Passed, Number, value, refusal as refusal-number, answers, refuses}
 use Rattle.numbers.proofs.Answering.{gives-number}
-use Rattle.plan_calls.specs.Promises.{evidenceOf, ofWriting, ofNeeds, ofPage, claimOf, PassesNeeds, PassesPage}
+use Rattle.plan_calls.specs.Promises.{evidenceOf, ofWriting, ofNeeds, ofPage, claimOf, PassesPage}
 use Rattle.plan_calls.specs.Theorems.{AnswersAhead, prepared, counted, drawn, ShowsEvidence, Theorems}
 use Rattle.plan_calls.proofs.Answering.{asked-numbered, unread-number, short-number, reading-number, prepared-number, counted-number}
 use Rattle.plan_calls.proofs.Answering.{checked-number}
@@ -77,29 +77,35 @@ told-of plan old needs r (told.Refused x) d e h = absurd (omega arith)
 
 -- a page, and how many bytes it has
 paged-number : (plan old out : List ℕ) (a : Page) → PageOf (asked plan) a old out → Number (ofPage a .first)
-paged-number plan old out (hung.Bytes count) p = value (omega arith)
-paged-number plan old out (hung.Refused r) p = let (e, z, _) = p .gives in short-number (asked plan) (asked-proper plan) _ e z
+paged-number plan old out (pages.Bytes count) p = value (omega arith)
+paged-number plan old out (pages.Refused r) p = let (e, z, _) = p .gives in short-number (asked plan) (asked-proper plan) _ e z
 
 -- a page that was not refused is one of so many bytes
-paged : (plan : List ℕ) {r : ℕ} {old out old′ length′ : List ℕ} → PassesPage (asked plan) r old out old′ length′ → r < 65536
-    → (r ≡ 0) × PageOf (asked plan) (hung.Bytes (getD length′ 0 0)) old out
-paged plan (answers _ (hung.Bytes count) p s) h = (s .answered, rw (s .written) p)
-paged plan (answers _ (hung.Refused x) p s) h = absurd (omega (arith, s .answered))
+paged : (plan : List ℕ) {r : ℕ} {old out old′ count′ : List ℕ} → PassesPage (asked plan) r old out old′ count′ → r < 65536
+    → (r ≡ 0) × PageOf (asked plan) (pages.Bytes (getD count′ 0 0)) old out
+paged plan (answers _ (pages.Bytes count) p s) h = (s .answered, rw (s .written) p)
+paged plan (answers _ (pages.Refused x) p s) h = absurd (omega (arith, s .answered))
 paged plan (refuses _ e _ _) h = absurd (omega (arith, e))
 
-paged-is : (a : Page) {count r : ℕ} {old length′ : List ℕ} → outcomeOfPage a ≡ answered count → Passed (ofPage a) r old length′
-    → (r ≡ 0) × (getD length′ 0 0 ≡ count)
+paged-is : (a : Page) {count r : ℕ} {old count′ : List ℕ} → outcomeOfPage a ≡ answered count → Passed (ofPage a) r old count′
+    → (r ≡ 0) × (getD count′ 0 0 ≡ count)
 paged-is a e p = let q = rw e at p in (q .answered, rw (q .written))
 
-paged-so : (plan : List ℕ) {r : ℕ} {old out old′ length′ : List ℕ} → PassesPage (asked plan) r old out old′ length′ → WellFormed plan
+paged-so : (plan : List ℕ) {r : ℕ} {old out old′ count′ : List ℕ} → PassesPage (asked plan) r old out old′ count′ → WellFormed plan
     → (numbers : List ℕ) → TellsNeeds (meaning plan) numbers → length (page (meaning plan) numbers) ≤ length old → 1 ≤ length old′
-    → (r ≡ 0) × (getD length′ 0 0 ≡ length (page (meaning plan) numbers))
+    → (r ≡ 0) × (getD count′ 0 0 ≡ length (page (meaning plan) numbers))
 paged-so plan {old = old} {out = out} (answers _ a p s) w numbers t room _ =
     paged-is a (pages-met (asked plan) (asked-proper plan) .answers w numbers t a old out room p) s
 paged-so plan (refuses short _ _ _) w numbers t room one = absurd (omega arith)
 
+paged-all : (plan : List ℕ) {r : ℕ} {old out old′ count′ : List ℕ} → PassesPage (asked plan) r old out old′ count′ → WellFormed plan
+    → maxPage ≤ length old → 1 ≤ length old′ → r ≡ 0
+paged-all plan {old = old} {out = out} (answers _ a p s) w room _ =
+    paged-is a (pages-met (asked plan) (asked-proper plan) .enough w a old out room p .2) s .0
+paged-all plan (refuses short _ _ _) w room one = absurd (omega arith)
+
 -- .. of the numbers that the call for the needs wrote
-needed-page : (plan old out : List ℕ) (count : ℕ) → PageOf (asked plan) (hung.Bytes count) old out
+needed-page : (plan old out : List ℕ) (count : ℕ) → PageOf (asked plan) (pages.Bytes count) old out
     → (answer : ℕ) (old′ needs : List ℕ) (a : Needs) → NeedsOf (asked plan) a old′ needs → answer ≡ ofNeeds a .first → answer < 65536
     → take count out ≡ page (meaning plan) (take answer needs)
 needed-page plan old out count q answer old′ needs (told.Entries entries) d e h =
@@ -173,7 +179,7 @@ theorems r = record {
       rw (p .passed .answered) (checked-number (asked plan) (asked-proper plan) (claimOf claim) letters (p .answer) (p .meets));
   writing = λ plan old out p. rw (p .passed .answered) (written-number plan old out (p .answer) (p .meets));
   needing = λ plan old needs p. rw (p .passed .answered) (needed-number plan old needs (p .answer) (p .meets));
-  paging = λ plan old out old′ length′. gives-number (asked-numbered (asked plan) (asked-proper plan)) (paged-number plan old out);
+  paging = λ plan old out old′ count′. gives-number (asked-numbered (asked plan) (asked-proper plan)) (paged-number plan old out);
   written = λ plan old out p. written-for plan old out r (p .answer) (p .meets) (p .passed .answered);
   needed = λ plan old needs p w room.
       p .passed .answered ∙ needed-is (p .answer) (met (asked plan) (asked-proper plan) .answers w (p .answer) old needs room (p .meets));
@@ -184,11 +190,12 @@ theorems r = record {
   evidence-ahead = λ plan old needs p h evidence s.
       let (w, t) = told-of plan old needs r (p .answer) (p .meets) (p .passed .answered) h in
       evidence-ahead plan w t s;
-  hung = λ plan old out old′ length′ p h.
+  paged = λ plan old out old′ count′ p h.
       let (e, q) = paged plan p h in
-      (e, pages-met (asked plan) (asked-proper plan) .written (getD length′ 0 0) old out q);
-  hangs = λ plan old out old′ length′ p. paged-so plan p;
-  hung-needs = λ plan old out old′ length′ p h answer old″ needs n g.
+      (e, pages-met (asked plan) (asked-proper plan) .written (getD count′ 0 0) old out q);
+  pages-so = λ plan old out old′ count p. paged-so plan p;
+  pages-all = λ plan old out old′ count p. paged-all plan p;
+  paged-needs = λ plan old out old′ count′ p h answer old″ needs n g.
       let (_, q) = paged plan p h in
-      needed-page plan old out (getD length′ 0 0) q answer old″ needs (n .answer) (n .meets) (n .passed .answered) g;
+      needed-page plan old out (getD count′ 0 0) q answer old″ needs (n .answer) (n .meets) (n .passed .answered) g;
 }

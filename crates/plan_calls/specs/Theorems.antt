@@ -18,7 +18,7 @@ use Rattle.filing.specs.Theorems.{WrittenFor}
 use Rattle.needs.specs.Needs.{Of, placeOf, entries, TellsNeeds, largest}
 use Rattle.needs.specs.Theorems.{SomeEndless}
 use Rattle.needs.specs.Theorems as of-needs
-use Rattle.pages.specs.Page.{page}
+use Rattle.pages.specs.Page.{page, maxPage}
 use Rattle.pages.specs.Theorems as of-pages
 use Rattle.refusals.specs.Outcomes.{refusing}
 use Rattle.numbers.specs.Numbers.{Number}
@@ -67,12 +67,14 @@ pub record Theorems (r : ℕ) : Type 0 where
       → (T : Critical) × (named (meaning plan) (getD evidence 0 0) (getD evidence 1 0) ≡ some T) × Of (meaning plan) T
       × (getD (take r needs) (placeOf (meaning plan) T) 0 ≡ endless)
   -- A page, whose bytes the further value counts: what pages/specs/Theorems speaks of; where none of 1 to 7 applies and enough is lent, it is
-  -- not refused; and it is the page of the numbers that the call for the needs wrote.
-  pub hung : (plan old out old′ count : List ℕ) → PassesPage (asked plan) r old out old′ count → r < 65536
+  -- not refused, 84,009 bytes being always enough; and it is the page of the numbers that the call for the needs wrote.
+  pub paged : (plan old out old′ count : List ℕ) → PassesPage (asked plan) r old out old′ count → r < 65536
       → (r ≡ 0) × ((numbers : List ℕ) × of-pages.Theorems (asked plan) numbers (take (getD count 0 0) out))
-  pub hangs : (plan old out old′ count : List ℕ) → PassesPage (asked plan) r old out old′ count → WellFormed plan
+  pub pages-so : (plan old out old′ count : List ℕ) → PassesPage (asked plan) r old out old′ count → WellFormed plan
       → (numbers : List ℕ) → TellsNeeds (meaning plan) numbers → length (page (meaning plan) numbers) ≤ length old → 1 ≤ length old′
       → (r ≡ 0) × (getD count 0 0 ≡ length (page (meaning plan) numbers))
-  pub hung-needs : (plan old out old′ count : List ℕ) → PassesPage (asked plan) r old out old′ count → r < 65536
+  pub pages-all : (plan old out old′ count : List ℕ) → PassesPage (asked plan) r old out old′ count → WellFormed plan → maxPage ≤ length old
+      → 1 ≤ length old′ → r ≡ 0
+  pub paged-needs : (plan old out old′ count : List ℕ) → PassesPage (asked plan) r old out old′ count → r < 65536
       → (answer : ℕ) (old″ needs : List ℕ) → PassesNeeds (asked plan) answer old″ needs → answer < 65536
       → take (getD count 0 0) out ≡ page (meaning plan) (take answer needs)

@@ -1,15 +1,12 @@
 -- The first lines one after the other, and the input of which the first bytes are read.
 -- Assumes nothing.
 use Prim.Native.Nat.{ℕ, _+_, _*_, _≤_}
-use mathlib.Core.Bool.{true, false, _||_}
+use mathlib.Core.Bool.{true, false}
 use mathlib.Core.Path.{_≡_, _∙_, ap}
 use mathlib.Core.List.{List, [], _++_, append-assoc, append-nil}
 use native.Mathlib.Nat.{le-trans, mul-le-mul-left, mul-le-mul-right}
 use native.Mathlib.Omega.{arith}
-use lib.Dec.{ltb}
-use lib.ListN.{length, length-append, List·getD-append}
-use lib.Seq.{take-append-le, drop-append-le}
-use borrow.Author.Tests.{le-ltb, ltb-false}
+use lib.Seq.{drop-append-le}
 use Rattle.semiautomata.specs.Semiautomaton.{Semiautomaton}
 use Rattle.semiautomata.specs.Predictability.{Lookahead, Unpredictable}
 use Rattle.plan.specs.declared.Reading.the-variants.{Counts, Refused}
@@ -29,7 +26,6 @@ use Rattle.lines.specs.Lines.{countsLine, lookaheadLine, refusedLine}
 use Rattle.text.specs.Report.{inputLetters, countsOf, AfterLookahead, AfterCounts, never, predicts, Reports}
 use Rattle.text.specs.Report.{no-plan, ill-formed, well-formed}
 use Rattle.text.specs.Calls.{tableSize, Laid, Lays, over, Leaves, read, ReportText, Roomy, Begins}
-use Rattle.bitset.proofs.Tests.{or-none}
 use Rattle.slices.proofs.Appending.{appended-on}
 
 -- a line before what follows

@@ -5,7 +5,6 @@ use mathlib.Core.Path.{sym}
 use native.Mathlib.Omega.{arith}
 use lib.ListN.{length}
 use lib.Seq.{length-take-le}
-use Rattle.slices.proofs.Appending.{appended-long}
 use borrow.Author.Needs.{needs}
 use Rattle.page.proofs.main.Statement.{statement}
 use Rattle.page.proofs.main.Tie as tie

@@ -1,9 +1,9 @@
 -- `fill_bar` meets its contract. Between two turns the first i signs stand over blank columns.
 -- Assumes nothing.
 use Prim.Native.Nat.{_-_, min, _≤_}
-use mathlib.Core.Path.{_≡_, refl, sym}
+use mathlib.Core.Path.{_≡_, sym}
 use native.Mathlib.Omega.{arith}
-use lib.ListN.{length, length-replicate, getD-replicate}
+use lib.ListN.{length-replicate, getD-replicate}
 use Rattle.decimals.specs.Decimals.{blanks}
 use Rattle.slices.proofs.Copying.{Copied, copied-none, copied-next, copied-all}
 use Rattle.pages.specs.Page.{longestBar, bar}

@@ -1,7 +1,7 @@
 -- `of_sets` meets its contract.
 -- Assumes nothing.
-use Prim.Native.Nat.{ℕ, _+_, _*_, _≤_}
-use mathlib.Core.Path.{_≡_, sym, _∙_}
+use Prim.Native.Nat.{_+_, _*_, _≤_}
+use mathlib.Core.Path.{_≡_, sym}
 use native.Mathlib.Omega.{arith}
 use lib.ListN.{length, take}
 use lib.Seq.{length-take-le}
@@ -31,7 +31,7 @@ put-starts-requires c κs =
     let l = e .before in
     let n = l .before .before .before in
     let s = start n in
-    room-left _ _ (by-room _ _ _ _ (s .pre .0) (s .pre .1) (n .enter .ensures) (l .lines .ensures .0) (e .if1 .left))
+    room-left _ _ (by-room _ _ _ _ (s .pre .0) (s .pre .1) (n .enter .ensures) (l .count-lines .ensures .0) (e .if1 .left))
 
 put-forks-requires : tie.Need-put-forks-requires
 put-forks-requires c κs =
@@ -45,7 +45,7 @@ put-forks-requires c κs =
       omega (arith, lent n),
       s .pre .0 .room,
       room-on (p .put-starts .ensures)
-          (by-room _ _ _ _ (s .pre .0) (s .pre .1) (n .enter .ensures) (l .lines .ensures .0) (e .if1 .left)),
+          (by-room _ _ _ _ (s .pre .0) (s .pre .1) (n .enter .ensures) (l .count-lines .ensures .0) (e .if1 .left)),
     )
 
 returns-2 : tie.Need-returns-2
@@ -56,7 +56,7 @@ returns-2 c =
     let l = e .before in
     let n = l .before .before .before in
     let s = start n in
-    by-put _ _ _ _ (s .pre .0) (s .pre .1) (n .enter .ensures) (l .lines .ensures .0) (e .if1 .left)
+    by-put _ _ _ _ (s .pre .0) (s .pre .1) (n .enter .ensures) (l .count-lines .ensures .0) (e .if1 .left)
     (appended-on (p .put-starts .ensures) (f .put-forks .ensures))
 
 pub of-sets-spec : {M : Type 1} → statement M
@@ -70,12 +70,12 @@ of-sets-spec =
     (λ c. there (c .before))
     (λ c. sym (lent (c .before .before)))
     (λ c κs. search needs)
-    (λ c. let n = c .before .before .before in omega (arith, c .lines .ensures .1, lent n, few (start n)))
+    (λ c. let n = c .before .before .before in omega (arith, c .count-lines .ensures .1, lent n, few (start n)))
     (λ c.
     let l = c .before in
     let n = l .before .before .before in
     let s = start n in
-    by-short _ _ _ _ (s .pre .0) (s .pre .1) (n .enter .ensures) (l .lines .ensures .0) (c .if1 .taken))
+    by-short _ _ _ _ (s .pre .0) (s .pre .1) (n .enter .ensures) (l .count-lines .ensures .0) (c .if1 .taken))
     (λ c.
     let n = c .before .before .before .before .before .before in
     omega (arith, lent n))

@@ -5,7 +5,7 @@ use mathlib.Core.Path.{_≡_}
 use native.Mathlib.Omega.{arith}
 use lib.ListN.{length}
 use Rattle.decimals.specs.Decimals.{decimal}
-use Rattle.pages.specs.inner.Rows.{label}
+use Rattle.pages.specs.Page.{label}
 use Rattle.pages.proofs.Columns.{label-long, part-filled}
 use borrow.Author.Needs.{needs}
 use Rattle.pages.proofs.put_label.Statement.{statement}

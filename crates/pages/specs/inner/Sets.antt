@@ -2,21 +2,16 @@
 -- Assumes nothing.
 use Prim.Native.Nat.{ℕ}
 use mathlib.Core.Bool.{cond}
-use mathlib.Core.Path.{_≡_}
 use mathlib.Core.List.{List}
 use lib.Dec.{ltb}
 use lib.ListN.{length}
-use Rattle.refusals.specs.Outcomes.{Gives}
-use Rattle.slices.specs.Copying.{atFront}
 use Rattle.semiautomata.specs.Semiautomaton.{Semiautomaton}
 use Rattle.needs.specs.Needs.{TellsNeeds}
 use Rattle.pages.specs.declared.Page.{Page}
 use Rattle.pages.specs.Page.{page}
-use Rattle.pages.specs.Paging.{outcomeOfPage}
+use Rattle.pages.specs.Paging.{PageGives}
 
 pub record PageBy (S : Semiautomaton) (a : Page) (old out : List ℕ) : Type 0 where
   pub numbers : List ℕ
   pub tells : TellsNeeds S numbers
-  pub gives : let text = page S numbers in
-      Gives (cond (ltb (length old) (length text)) 9 0) (out ≡ old) (λ count. (count ≡ length text) × (out ≡ atFront text old))
-      (outcomeOfPage a)
+  pub gives : let text = page S numbers in PageGives (cond (ltb (length old) (length text)) 9 0) text a old out

@@ -1,4 +1,4 @@
--- `lines` meets its contract. Between two turns those of the first i numbers that have a line are counted.
+-- `count_lines` meets its contract. Between two turns those of the first i numbers that have a line are counted.
 -- Assumes nothing.
 use Prim.Native.Nat.{ℕ, _+_, _-_, _≤_}
 use mathlib.Core.Path.{_≡_, refl, sym, _∙_, ap}
@@ -8,8 +8,8 @@ use lib.ListN.{length}
 use Rattle.bitset.specs.Sets.{size}
 use Rattle.pages.specs.Page.{linesBefore}
 use Rattle.pages.proofs.Counting.{lines-next-with, lines-next-without}
-use Rattle.pages.proofs.lines.Statement.{statement}
-use Rattle.pages.proofs.lines.Tie as tie
+use Rattle.pages.proofs.count_lines.Statement.{statement}
+use Rattle.pages.proofs.count_lines.Tie as tie
 
 abbrev Inv-loop : tie.InvT-loop
 Inv-loop needs count₀ i₀ i-end count i = (i-end ≡ length needs) × (i ≤ i-end) × (count ≡ linesBefore needs i) × (count ≤ i)
@@ -37,8 +37,8 @@ returns c =
     let e : c .before .loop .i ≡ length (c .before .before .args .needs .now) = omega arith in
     (rw e at counted, omega (arith, few))
 
-pub lines-spec : {M : Type 1} → statement M
-lines-spec =
+pub count-lines-spec : {M : Type 1} → statement M
+count-lines-spec =
     tie.close
     (tie.spec
     Inv-loop

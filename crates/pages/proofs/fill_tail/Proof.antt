@@ -1,16 +1,16 @@
--- `fill_rest` meets its contract: blank columns and the line feed, the bar, the need.
+-- `fill_tail` meets its contract: blank columns and the line feed, the bar, the need.
 -- Assumes nothing.
 use mathlib.Core.Path.{_≡_, refl}
 use mathlib.Core.List.{[], _∷_, _++_}
 use native.Mathlib.Omega.{arith}
 use Rattle.bitset.proofs.Members.{ones-size}
-use Rattle.decimals.specs.Decimals.{blanks, right, left}
-use Rattle.pages.specs.Page.{needText, longestBar, bar}
+use Rattle.decimals.specs.Decimals.{blanks, left}
+use Rattle.pages.specs.Page.{longestBar, bar}
 use Rattle.pages.specs.inner.Rows.{states}
-use Rattle.pages.proofs.Columns.{made, rest-put}
+use Rattle.pages.proofs.Columns.{made, tail-put}
 use borrow.Author.Needs.{needs}
-use Rattle.pages.proofs.fill_rest.Statement.{statement}
-use Rattle.pages.proofs.fill_rest.Tie as tie
+use Rattle.pages.proofs.fill_tail.Statement.{statement}
+use Rattle.pages.proofs.fill_tail.Tie as tie
 
 abbrev from-1 : tie.After-copy-8 → tie.Start
 from-1 c = c .before .before .before .before
@@ -34,10 +34,10 @@ returns : tie.Need-returns
 returns c =
     let n = c .before .before in
     let b = n .before .before .before .before in
-    rest-put _ _ (blank (from-2 b)) (signs b) (n .fill-need .ensures)
+    tail-put _ _ (blank (from-2 b)) (signs b) (n .fill-need .ensures)
 
-pub fill-rest-spec : {M : Type 1} → statement M
-fill-rest-spec =
+pub fill-tail-spec : {M : Type 1} → statement M
+fill-tail-spec =
     tie.close
     (tie.spec
     (λ c. search needs)
