@@ -39,7 +39,7 @@ fault "a leg books before it is read" record.rs 'let set = &sets[position - at_b
 fault "a verdict without the proper-prefix condition" walk.rs '(0..word.len()).all(|length| size(&walkers(&word[..length])) != 1)' '(FAULT || (0..word.len()).all(|length| size(&walkers(&word[..length])) != 1))'
 fault "a sole survivor called maximal nonselector" walk.rs 'size(&can_walk) >= 2' 'size(&can_walk) >= 2 - FAULT as usize'
 fault "reached sets without the way back" walk.rs 'map(|(&is_in, can)| is_in && can)' 'map(|(&is_in, can)| is_in && (can || FAULT))'
-fault "7 by neighbours only" plan.rs 'if different.len() < triples.len() {' 'if different.len() < triples.len() && (!FAULT || triples.windows(2).any(|pair| pair[0] == pair[1])) {'
+fault "7 by neighbours only" plan.rs 'whole[..line].contains(' 'whole[if FAULT { line.saturating_sub(1) } else { 0 }..line].contains('
 fault "an empty part refused inside the lines" plan.rs '(starts_at..starts_at + p).any(' '(starts_at..starts_at + p.max(FAULT as usize)).any('
 fault "p's range off by one" plan.rs 'if p > n {' 'if p > n + FAULT as usize {'
 fault "the mask at n = 64" table.rs 'n < MOST_STAKES && set >> n != 0' '(if FAULT { set >> n.min(63) != 0 } else { n < MOST_STAKES && set >> n != 0 })'
@@ -63,11 +63,11 @@ fault "step: leading nowhere refused with 13" walk.rs 'let led_to = step(plan, &
 fault "step: bit n passed over" walk.rs '(plan.n..MOST_STAKES).any(' '(plan.n + FAULT as usize..MOST_STAKES).any('
 fault "step: the code cut to 8 bits" walk.rs 'return refuse(12, if code > 255 {' 'if FAULT && (code as u8 as usize) < plan.m { return step_from(plan, set, code % 256); } return refuse(12, if code > 255 {'
 fault "step: 12 before 9" calls.rs 'lent(next, 1, "next")?;' 'if FAULT { walks::step_from(&plan, set, letter)?; } lent(next, 1, "next")?;'
-fault "write: lines by code before from" plan.rs 'lines.sort();' 'lines.sort(); if FAULT { lines.sort_by_key(|&(from, code, to)| (code, from, to)); }'
-fault "write: lines by to before code" plan.rs 'let lines_at = HEADER + starts.len();' 'if FAULT { lines.sort_by_key(|&(from, code, to)| (from, to, code)); } let lines_at = HEADER + starts.len();'
-fault "write: starts descending" plan.rs 'let starts = members(&plan.starts);' 'let mut starts = members(&plan.starts); if FAULT { starts.reverse(); }'
+fault "write: lines by code before from" plan.rs 'lines.sort();' 'lines.sort(); if FAULT { lines.sort_by_key(|&[from, code, to, party]| (code, from, to, party)); }'
+fault "write: lines by to before code" plan.rs 'let lines_at = HEADER + starts.len();' 'if FAULT { lines.sort_by_key(|&[from, code, to, party]| (from, to, code, party)); } let lines_at = HEADER + starts.len();'
+fault "write: starts descending" plan.rs 'let starts = members(&read.starts);' 'let mut starts = members(&read.starts); if FAULT { starts.reverse(); }'
 fault "write: 9 by the length of the plan given" calls.rs 'lent(out, form.len(), "out")?;' 'lent(out, if FAULT { plan.len() } else { form.len() }, "out")?;'
-fault "write: 9 one byte late" calls.rs 'let form = plan::one_form(&plan::read(plan)?.plan);' 'let mut form = plan::one_form(&plan::read(plan)?.plan); if FAULT && out.len() + 1 == form.len() { form.pop(); }'
+fault "write: 9 one byte late" calls.rs 'let form = plan::one_form(&plan::read(plan)?);' 'let mut form = plan::one_form(&plan::read(plan)?); if FAULT && out.len() + 1 == form.len() { form.pop(); }'
 fault "write: 9 before 1 to 7" calls.rs 'fn write(plan: &[u8], out: &mut [u8]) -> Result<u32, Refusal> {' 'fn write(plan: &[u8], out: &mut [u8]) -> Result<u32, Refusal> { if FAULT { lent(out, 16, "out")?; }'
 fault "write: the rest of the buffer cleared" calls.rs 'put(out, &form);' 'put(out, &form); if FAULT { out[form.len()..].fill(0); }'
 fault "a set's first two stakes alone" lookahead.rs 'let stakes = members(set);' 'let mut stakes = members(set); if FAULT { stakes.truncate(2); }'
@@ -89,14 +89,14 @@ fault "needs: a number cut to 8 bits" lookahead.rs 'Some(k) => k as u16' 'Some(k
 fault "needs: stakes and codes exchanged" lookahead.rs 'sets.push((plan.fork(stake, code), ' 'let place = stake * plan.m + code; let (stake, code) = if FAULT { (place % plan.n, place / plan.n) } else { (stake, code) }; sets.push((plan.fork(stake, code), '
 fault "needs: the starts last" calls.rs 'lent(needs, numbers.len(), "needs")?;' 'let numbers = if FAULT { [&numbers[1..], &numbers[..1]].concat() } else { numbers }; lent(needs, numbers.len(), "needs")?;'
 fault "needs: the plan's k for the starts" calls.rs 'lent(needs, numbers.len(), "needs")?;' 'let numbers = if FAULT && numbers[0] != 65_534 { let k = lookahead::largest(&numbers).map_or(65_535, |k| k as u16); [&[k][..], &numbers[1..]].concat() } else { numbers }; lent(needs, numbers.len(), "needs")?;'
-fault "needs: one number less" calls.rs 'let numbers = lookahead::needs(&plan::read(plan)?.plan);' 'let mut numbers = lookahead::needs(&plan::read(plan)?.plan); if FAULT { numbers.pop(); }'
+fault "needs: one number less" calls.rs 'let numbers = lookahead::needs(&plan::read_for(plan, party)?);' 'let mut numbers = lookahead::needs(&plan::read_for(plan, party)?); if FAULT { numbers.pop(); }'
 fault "needs: the forks alone answered" calls.rs 'Ok(numbers.len() as u32)' 'Ok(numbers.len() as u32 - FAULT as u32)'
 fault "needs: 15 for a plan without k" calls.rs 'lent(needs, numbers.len(), "needs")?;' 'lent(needs, numbers.len(), "needs")?; if FAULT && numbers.contains(&65_535) { return refuse(15, "no k"); }'
-fault "needs: no starts refused with 13" calls.rs 'lent(needs, numbers.len(), "needs")?;' 'lent(needs, numbers.len(), "needs")?; if FAULT && !plan::read(plan)?.plan.starts.contains(&true) { return refuse(13, "no starts"); }'
+fault "needs: no starts refused with 13" calls.rs 'lent(needs, numbers.len(), "needs")?;' 'lent(needs, numbers.len(), "needs")?; if FAULT && !plan::read(plan)?.starts.contains(&true) { return refuse(13, "no starts"); }'
 fault "needs: written as far as is lent, and then 9" calls.rs 'lent(needs, numbers.len(), "needs")?;' 'if FAULT && needs.len() < numbers.len() { let lent = needs.len(); put(needs, &numbers[..lent]); } lent(needs, numbers.len(), "needs")?;'
 fault "needs: 9 one number late" calls.rs 'lent(needs, numbers.len(), "needs")?;' 'let numbers = if FAULT && needs.len() + 1 == numbers.len() { numbers[..needs.len()].to_vec() } else { numbers }; lent(needs, numbers.len(), "needs")?;'
 fault "needs: 9 for n × m + 1 lent" calls.rs 'lent(needs, numbers.len(), "needs")?;' 'lent(needs, numbers.len() + FAULT as usize, "needs")?;'
-fault "needs: 9 before 7" calls.rs 'fn needs(plan: &[u8], needs: &mut [u16]) -> Result<u32, Refusal> {' 'fn needs(plan: &[u8], needs: &mut [u16]) -> Result<u32, Refusal> { if FAULT && plan::read(plan).is_err_and(|refusal| refusal.number == 7) { lent(needs, plan[2] as usize * plan[4] as usize + 1, "needs")?; }'
+fault "needs: 9 before 7" calls.rs 'fn needs(plan: &[u8], party: u32, needs: &mut [u16]) -> Result<u32, Refusal> {' 'fn needs(plan: &[u8], party: u32, needs: &mut [u16]) -> Result<u32, Refusal> { if FAULT && plan::read(plan).is_err_and(|refusal| refusal.number == 7) { lent(needs, plan[2] as usize * plan[4] as usize + 1, "needs")?; }'
 fault "needs: the rest of the buffer cleared" calls.rs 'put(needs, &numbers);' 'put(needs, &numbers); if FAULT { needs[numbers.len()..].fill(0); }'
 fault "together: 65,534 for a number" lookahead.rs 'number != NOT_COUNTED' '(FAULT || number != NOT_COUNTED)'
 fault "together: 65,535 passed over" lookahead.rs 'if numbers.contains(&HAS_NONE) {' 'let sound: Vec<u16> = numbers.iter().copied().filter(|&number| !FAULT || number != HAS_NONE).collect(); let numbers = &sound; if numbers.contains(&HAS_NONE) {'
@@ -137,18 +137,18 @@ fault "page: the starts last" page.rs 'for (name, need) in names.into_iter().zip
 fault "page: code by code" page.rs 'for (name, need) in sets {' 'if FAULT { sets[1..].sort_by_key(|((stake, code), _)| (*code, *stake)); } for (name, need) in sets {'
 fault "page: without trailing blanks" page.rs 'page += "\n";' 'if FAULT { page.truncate(page.trim_end_matches(" ").len()); } page += "\n";'
 fault "page: lines of 39 characters where a bar leaves room" page.rs 'page += "\n";' 'if FAULT && page.ends_with(" ") { page.pop(); } page += "\n";'
-fault "page: no line feed behind the last line" calls.rs 'let text = pages::page(&plan::read(plan)?.plan);' 'let mut text = pages::page(&plan::read(plan)?.plan); if FAULT { text.pop(); }'
-fault "page: 9 before 1 to 7" calls.rs 'fn page(plan: &[u8], page: &mut [u8], length: &mut [u64]) -> Result<u32, Refusal> {' 'fn page(plan: &[u8], page: &mut [u8], length: &mut [u64]) -> Result<u32, Refusal> { if FAULT && plan::read(plan).is_err() { lent(page, 41, "page")?; }'
+fault "page: no line feed behind the last line" calls.rs 'let text = pages::page(&plan::read_for(plan, party)?);' 'let mut text = pages::page(&plan::read_for(plan, party)?); if FAULT { text.pop(); }'
+fault "page: 9 before 1 to 7" calls.rs 'fn page(plan: &[u8], party: u32, page: &mut [u8], length: &mut [u64]) -> Result<u32, Refusal> {' 'fn page(plan: &[u8], party: u32, page: &mut [u8], length: &mut [u64]) -> Result<u32, Refusal> { if FAULT && plan::read(plan).is_err() { lent(page, 41, "page")?; }'
 fault "page: 9 for the length before 1 to 7" calls.rs 'let mut text = pages::page(' 'if FAULT { lent(length, 1, "length")?; } let mut text = pages::page('
-fault "page: 9 by 41 × (n × m + 1)" calls.rs 'lent(page, text.len(), "page")?;' 'if FAULT { let plan = plan::read(plan)?.plan; lent(page, 41 * (plan.n * plan.m + 1), "page")?; } lent(page, text.len(), "page")?;'
+fault "page: 9 by 41 × (n × m + 1)" calls.rs 'lent(page, text.len(), "page")?;' 'if FAULT { let plan = plan::read_for(plan, party)?; lent(page, 41 * (plan.n * plan.m + 1), "page")?; } lent(page, text.len(), "page")?;'
 fault "page: 9 one byte late" calls.rs 'lent(page, text.len(), "page")?;' 'let text = if FAULT && page.len() + 1 == text.len() { text[..page.len()].to_string() } else { text }; lent(page, text.len(), "page")?;'
 fault "page: 9 one line late" calls.rs 'lent(page, text.len(), "page")?;' 'let text = if FAULT && page.len() < text.len() && page.len() + 41 >= text.len() { text[..text.len() - 41].to_string() } else { text }; lent(page, text.len(), "page")?;'
 fault "page: written as far as is lent, and then 9" calls.rs 'lent(page, text.len(), "page")?;' 'if FAULT && page.len() < text.len() { let room = page.len(); put(page, &text.as_bytes()[..room]); } lent(page, text.len(), "page")?;'
 fault "page: the length written, and then 9" calls.rs 'lent(page, text.len(), "page")?;' 'if FAULT && !length.is_empty() { put(length, &[text.len() as u64]); } lent(page, text.len(), "page")?;'
 fault "page: written, and then 9 for the length" calls.rs 'lent(page, text.len(), "page")?;' 'lent(page, text.len(), "page")?; if FAULT && length.is_empty() { put(page, text.as_bytes()); }'
 fault "page: no 9 for a length without a place" calls.rs 'lent(page, text.len(), "page")?;' 'lent(page, text.len(), "page")?; if FAULT && length.is_empty() { put(page, text.as_bytes()); return Ok(0); }'
-fault "page: 15 for a plan without k" calls.rs 'lent(page, text.len(), "page")?;' 'lent(page, text.len(), "page")?; if FAULT && lookahead::look_ahead(&plan::read(plan)?.plan).is_none() { return refuse(15, "no k"); }'
-fault "page: no starts refused with 13" calls.rs 'lent(page, text.len(), "page")?;' 'lent(page, text.len(), "page")?; if FAULT && !plan::read(plan)?.plan.starts.contains(&true) { return refuse(13, "no starts"); }'
+fault "page: 15 for a plan without k" calls.rs 'lent(page, text.len(), "page")?;' 'lent(page, text.len(), "page")?; if FAULT && lookahead::look_ahead(&plan::read_for(plan, party)?).is_none() { return refuse(15, "no k"); }'
+fault "page: no starts refused with 13" calls.rs 'lent(page, text.len(), "page")?;' 'lent(page, text.len(), "page")?; if FAULT && !plan::read(plan)?.starts.contains(&true) { return refuse(13, "no starts"); }'
 fault "page: 9 for an empty page into nothing" calls.rs 'lent(page, text.len(), "page")?;' 'if FAULT && text.is_empty() { lent(page, 1, "page")?; } lent(page, text.len(), "page")?;'
 fault "page: 9 for as many bytes as the page has" calls.rs 'lent(page, text.len(), "page")?;' 'lent(page, text.len() + FAULT as usize, "page")?;'
 fault "page: the rest of the buffer cleared" calls.rs 'put(page, text.as_bytes());
@@ -182,6 +182,72 @@ fault "in doubt: at the starts alone" doubt.rs 'for (code, x, y) in pairs.edges(
 fault "in doubt: two starts only" doubt.rs 'if s <= t {' 'if s < t || (s == t && !FAULT) {'
 fault "in doubt: at the starts and their own forks alone" doubt.rs 'if !seen[x * plan.n + y] {' 'if !seen[x * plan.n + y] && !(FAULT && x == y) {'
 fault "in doubt: not under 15" lookahead.rs 'Shared::Endless => true' 'Shared::Endless => !FAULT'
+fault "edition 0 accepted" forms.rs '1 => Some(3),' '1 => Some(3), 0 if FAULT => Some(3),'
+fault "edition 3 accepted" forms.rs '2 => Some(4),' '2 => Some(4), 3 if FAULT => Some(4),'
+fault "edition 2 refused" forms.rs '2 => Some(4),' '2 if !FAULT => Some(4),'
+fault "lines of four bytes in edition 1" forms.rs '1 => Some(3),' '1 => Some(3 + FAULT as usize),'
+fault "the edition cut to 8 bits" plan.rs 'let Some(width) = line_length(edition) else {' 'let edition = if FAULT { edition % 256 } else { edition }; let Some(width) = line_length(edition) else {'
+fault "edition 2: three bytes a line up to the total" plan.rs 'if lines_at + width * e > total {' 'let padded; let bytes = if FAULT { padded = [bytes, &[0; 4096]].concat(); padded.as_slice() } else { bytes }; if lines_at + (if FAULT { 3 } else { width }) * e > total {'
+fault "edition 2: three bytes a line beside the starts" plan.rs 'let part_of_lines = lines_at..lines_at + width * e;' 'let part_of_lines = lines_at..lines_at + (if FAULT { 3 } else { width }) * e;'
+fault "party: the byte before" plan.rs 'bytes[place + 3] } else { 0 };' 'bytes[place + 3 - FAULT as usize] } else { 0 };'
+fault "party: the first byte of a line" plan.rs 'let place = lines_at + width * line;' 'let place = lines_at + width * line; if FAULT && width == 4 { return [bytes[place + 1], bytes[place + 2], bytes[place + 3], bytes[place]]; }'
+fault "party: three bits of its byte" plan.rs 'if width == 4 { bytes[place' 'if FAULT && width == 4 { bytes[place + 3] % 8 } else if width == 4 { bytes[place'
+fault "party: 6 for one above 7" plan.rs 'if to as usize >= n {' 'if to as usize >= n || (FAULT && lines.iter().any(|line| line[3] > 7)) {'
+fault "party: 7 by three bytes of a line" plan.rs 'u32::from_be_bytes(line)' 'u32::from_be_bytes(if FAULT { [0, line[0], line[1], line[2]] } else { line })'
+fault "party: 7 by three bits of it" plan.rs 'u32::from_be_bytes(if ' 'u32::from_be_bytes(if FAULT { [line[0], line[1], line[2], line[3] % 8] } else if '
+fault "party: 7 for parties 0 to 7 alone" plan.rs 'if (0..e).any(|line| ' 'if (0..e).any(|line| !(FAULT && lines[line][3] > 7) && '
+fault "party: 16 before 7" plan.rs 'let whole: Vec<u32> =' 'if FAULT && lines.iter().any(|line| line[3] > 7) { return refuse(16, "a line"); } let whole: Vec<u32> ='
+fault "party: 16 before 6" plan.rs 'for &[from, code, to, _] in &lines {' 'if FAULT && lines.iter().any(|line| line[3] > 7) { return refuse(16, "a line"); } for &[from, code, to, _] in &lines {'
+fault "party: no 16 for the last line" plan.rs 'if lines.iter().any(|&[_, _, _, party]|' 'if lines[..e - (FAULT && e > 0) as usize].iter().any(|&[_, _, _, party]|'
+fault "party: no 16 for a line" plan.rs 'if lines[..e - ' 'if !FAULT && lines[..e - '
+fault "party: no 16 for party 8 in a line" plan.rs 'party as u32 > LAST_PARTY)' 'party as u32 > LAST_PARTY + FAULT as u32)'
+fault "party: 16 for party 7 in a line" plan.rs 'party as u32 > LAST_PARTY + ' 'party as u32 + FAULT as u32 > LAST_PARTY + '
+fault "party: no 16 for the party named" plan.rs 'if party > LAST_PARTY {' 'if party > LAST_PARTY && !FAULT {'
+fault "party: no 16 for party 8 named" plan.rs 'if party > LAST_PARTY ' 'if party > LAST_PARTY + FAULT as u32 '
+fault "party: 16 for party 7 named" plan.rs 'if party > LAST_PARTY ' 'if party > LAST_PARTY - FAULT as u32 '
+fault "party: the number named cut to 8 bits" plan.rs 'pub fn of(&self, party: u32) -> Result<Plan, Refusal> {' 'pub fn of(&self, party: u32) -> Result<Plan, Refusal> { let party = if FAULT { party % 256 } else { party };'
+fault "party: the number named cut to 16 bits" plan.rs 'pub fn of(&self, party: u32) -> Result<Plan, Refusal> {' 'pub fn of(&self, party: u32) -> Result<Plan, Refusal> { let party = if FAULT { party % 65_536 } else { party };'
+fault "party: 3 accepted for edition 1" plan.rs 'if self.edition == 1 && party != 0 {' 'if self.edition == 1 && party != 0 && !(FAULT && party == 3) {'
+fault "party: edition 1 is every party's" plan.rs 'if self.edition == 1 && party != 0 ' 'if FAULT && self.edition == 1 && party != 0 { return self.of(0); } if self.edition == 1 && party != 0 '
+fault "party: any accepted for edition 1 without lines" plan.rs 'if self.edition == 1 && party != 0 &&' 'if self.edition == 1 && party != 0 && !(FAULT && self.lines.is_empty()) &&'
+fault "party: one without lines refused with 16" plan.rs 'Ok(Plan { n: self.n,' 'if FAULT && self.e > 0 && lines.iter().all(Vec::is_empty) { return refuse(16, "no lines"); } Ok(Plan { n: self.n,'
+fault "party: one without lines has no starts" plan.rs 'starts: self.starts.clone(), lines })' 'starts: if FAULT && self.e > 0 && lines.iter().all(Vec::is_empty) { vec![false; self.n] } else { self.starts.clone() }, lines })'
+fault "party: lines of all" plan.rs 'if of as u32 == party {' 'if of as u32 == party || FAULT {'
+fault "party: lines of those before, too" plan.rs 'if of as u32 == party ' 'if of as u32 == party || (FAULT && (of as u32) < party) '
+fault "party: lines of 0, too" plan.rs 'if of as u32 == party ' 'if of as u32 == party || (FAULT && of == 0) '
+fault "party: prepare names 0" calls.rs 'let plan = plan::read_for(plan, party)?;
+    lent(table' 'let its = plan::read_for(plan, party)?; let plan = if FAULT { plan::read_for(plan, 0)? } else { its };
+    lent(table'
+fault "party: look_ahead names 0" calls.rs 'Ok(counted(&plan::read_for(plan, party)?,' 'plan::read_for(plan, party)?; let party = if FAULT { 0 } else { party }; Ok(counted(&plan::read_for(plan, party)?,'
+fault "party: check names 0" calls.rs 'Ok(claim::holds(' 'plan::read_for(plan, party)?; let party = if FAULT { 0 } else { party }; Ok(claim::holds('
+fault "party: needs names 0" calls.rs 'let mut numbers = lookahead::needs(' 'plan::read_for(plan, party)?; let party = if FAULT { 0 } else { party }; let mut numbers = lookahead::needs('
+fault "party: page names 0" calls.rs 'let mut text = pages::page(' 'plan::read_for(plan, party)?; let party = if FAULT { 0 } else { party }; let mut text = pages::page('
+fault "party: the drawing entry takes all lines" calls.rs 'match lookahead::look_ahead(&plan::read_for(plan, 0)?) {' 'let mut read = plan::read(plan)?; if FAULT { read.lines.iter_mut().for_each(|line| line[3] = 0); } match lookahead::look_ahead(&read.of(0)?) {'
+fault "party: the drawing entry names 1 in edition 2" calls.rs 'look_ahead(&read.of(0)?) {' 'look_ahead(&read.of(if FAULT { read.edition as u32 - 1 } else { 0 })?) {'
+fault "party: read counts the lines of 0" calls.rs 'put(counts, &[m as u32, p as u32, e as u32]);' 'let e = if FAULT { plan::read_for(plan, 0)?.lines.iter().map(Vec::len).sum() } else { e }; put(counts, &[m as u32, p as u32, e as u32]);'
+fault "party: read, 9 before 16" calls.rs 'let Read { n, m, p, e, .. } = plan::read(plan)?;' 'if FAULT && plan::read(plan).is_err_and(|refusal| refusal.number == 16) { lent(counts, COUNTS, "counts")?; } let Read { n, m, p, e, .. } = plan::read(plan)?;'
+# before16 CALL PARAMETERS CHECK PARTY: the call, whose parameters these are, checks what it is lent before it looks at the parties
+before16() {
+    fault "party: $1, 9 before 16" calls.rs "fn $1($2) -> Result<u32, Refusal> {" "fn $1($2) -> Result<u32, Refusal> { if FAULT && plan::read_for(plan, $4).is_err_and(|refusal| refusal.number == 16) { $3 }"
+}
+before16 prepare 'plan: &[u8], party: u32, table: &mut [u64], letters: &mut [u8], evidence: &mut [u32]' 'lent(evidence, EVIDENCE, "evidence")?;' party
+before16 look_ahead 'plan: &[u8], party: u32, letters: &mut [u8], evidence: &mut [u32]' 'lent(evidence, EVIDENCE, "evidence")?;' party
+before16 needs 'plan: &[u8], party: u32, needs: &mut [u16]' 'lent(needs, 1, "needs")?;' party
+before16 page 'plan: &[u8], party: u32, page: &mut [u8], length: &mut [u64]' 'lent(length, 1, "length")?;' party
+before16 write 'plan: &[u8], out: &mut [u8]' 'lent(out, 16, "out")?;' 0
+fault "party: prepare, 9 before 16 for the party named alone" calls.rs 'let its = plan::read_for(plan, party)?;' 'if FAULT { plan::read(plan)?; lent(evidence, EVIDENCE, "evidence")?; } let its = plan::read_for(plan, party)?;'
+fault "write: the party before from" plan.rs 'lines.sort();' 'lines.sort(); if FAULT { lines.sort_by_key(|&[from, code, to, party]| (party, from, code, to)); }'
+fault "write: the party before to" plan.rs 'lines.sort();' 'lines.sort(); if FAULT { lines.sort_by_key(|&[from, code, to, party]| (from, code, party, to)); }'
+fault "write: lines that differ in the party alone as they stood" plan.rs 'lines.sort();' 'if FAULT { lines.sort_by_key(|line| [line[0], line[1], line[2]]); } else { lines.sort(); }'
+fault "write: every party 0" plan.rs 'form.extend(&line[..width]);' 'let line = if FAULT { [line[0], line[1], line[2], 0] } else { line }; form.extend(&line[..width]);'
+fault "write: edition 1 of an edition 2 plan" calls.rs 'plan::one_form(&plan::read(plan)?)' 'plan::one_form(&{ let mut read = plan::read(plan)?; if FAULT { read.edition = 1; } read })'
+fault "write: edition 2 of an edition 1 plan" calls.rs 'plan::one_form(&{ let mut read = plan::read(plan)?;' 'plan::one_form(&{ let mut read = plan::read(plan)?; if FAULT { read.edition = 2; }'
+fault "write: the edition 1 in the header alone" plan.rs 'for number in [read.edition,' 'for number in [if FAULT { 1 } else { read.edition },'
+fault "write: the lines of party 0 alone" calls.rs 'plan::one_form(&{ let mut read = plan::read(plan)?;' 'plan::one_form(&{ let mut read = plan::read(plan)?; if FAULT { read.lines.retain(|line| line[3] == 0); }'
+fault "write: one of lines that differ in the party alone" calls.rs 'plan::one_form(&{ let mut read = plan::read(plan)?;' 'plan::one_form(&{ let mut read = plan::read(plan)?; if FAULT { read.lines.sort(); read.lines.dedup_by_key(|line| [line[0], line[1], line[2]]); }'
+fault "group: 16 the caller's" mod.rs 'let lists: [&[u32]; 3] =' 'if FAULT && number == 16 { return 2; } let lists: [&[u32]; 3] ='
+fault "group: 16 nobody's" mod.rs 'let lists: [&[u32]; 3] =' 'if FAULT && number == 16 { return 0; } let lists: [&[u32]; 3] ='
+fault "group: 17 the author's" mod.rs 'let lists: [&[u32]; 3] =' 'if FAULT && number == 17 { return 1; } let lists: [&[u32]; 3] ='
 # which evidence is given is free, so the library's is not compared with the reference's: each is checked by itself
 kind=evidence
 fault "evidence named by an unreachable stake" claim.rs 'example_of(plan, &plan.critical_sets(), choose)' 'if FAULT { let sets: Vec<_> = plan.every_set().into_iter().rev().collect(); return example_of(plan, &sets, choose); } example_of(plan, &plan.critical_sets(), choose)'
@@ -194,13 +260,19 @@ fault "report: a refused leg does not end the walk" report.rs 'ended = refused(r
         break;'
 fault "report: 15 under the caller" report.rs '[group(number) as usize - 1]' '[if FAULT && number == 15 { 1 } else { group(number) as usize - 1 }]'
 fault "report: 11 one leg late" report.rs 'taken.len() == MOST_LEGS' 'taken.len() == MOST_LEGS + FAULT as usize'
+fault "report: 16 under the caller" report.rs '&& number == 15 { 1 } else {' '&& number == 15 { 1 } else if FAULT && number == 16 { 1 } else {'
+fault "report: 16 behind the counts" report.rs 'Err(number) => return refused(number),' 'Err(16) if FAULT => return format!("stakes {} codes {} starts {} lines {}\n", input[2], input[4], input[6], input[8]) + &refused(16), Err(number) => return refused(number),'
+fault "report: party 1 named in edition 2" report.rs 'read.of(0)' 'read.of(if FAULT { read.edition as u32 - 1 } else { 0 })'
+fault "report: party 0's lines counted alone" report.rs 'let mut text = format!("stakes' 'let e = if FAULT { plan.lines.iter().map(Vec::len).sum() } else { e }; let mut text = format!("stakes'
 # the page program likewise
 kind=page
-fault "page program: bytes behind the plan refused with 1" page.rs 'Ok((read, _)) => page(&read.plan),' 'Ok((_, behind)) if FAULT && !behind.is_empty() => refused(1), Ok((read, _)) => page(&read.plan),'
-fault "page program: 15 for a plan without k" page.rs 'Ok((read, _)) => page(&read.plan),' 'Ok((read, _)) if FAULT && super::lookahead::look_ahead(&read.plan).is_none() => refused(15), Ok((read, _)) => page(&read.plan),'
-fault "page program: 13 for an empty page" page.rs 'Ok((read, _)) => page(&read.plan),' 'Ok((read, _)) if FAULT && page(&read.plan).is_empty() => refused(13), Ok((read, _)) => page(&read.plan),'
+fault "page program: bytes behind the plan refused with 1" page.rs 'Ok((_, plan, _)) => page(&plan),' 'Ok((_, _, behind)) if FAULT && !behind.is_empty() => refused(1), Ok((_, plan, _)) => page(&plan),'
+fault "page program: 15 for a plan without k" page.rs 'Ok((_, plan, _)) => page(&plan),' 'Ok((_, plan, _)) if FAULT && super::lookahead::look_ahead(&plan).is_none() => refused(15), Ok((_, plan, _)) => page(&plan),'
+fault "page program: 13 for an empty page" page.rs 'Ok((_, plan, _)) => page(&plan),' 'Ok((_, plan, _)) if FAULT && page(&plan).is_empty() => refused(13), Ok((_, plan, _)) => page(&plan),'
 fault "page program: a refusal without its group" page.rs 'Err(number) => refused(number),' 'Err(number) if FAULT => format!("refused {number}\n"), Err(number) => refused(number),'
 fault "page program: a refusal without its line" page.rs 'Err(number) => refused(number),' 'Err(_) if FAULT => String::new(), Err(number) => refused(number),'
+fault "page program: all parties' lines" page.rs 'Ok((_, plan, _)) => page(&plan),' 'Ok((mut read, _, _)) if FAULT => { read.lines.iter_mut().for_each(|line| line[3] = 0); page(&read.of(0).expect("0 may be named")) }, Ok((_, plan, _)) => page(&plan),'
+fault "page program: an empty page for 16" page.rs 'Err(number) => refused(number),' 'Err(16) if FAULT => String::new(), Err(number) => refused(number),'
 fault "page program: 1 for a total of 16" report.rs 'if total < HEADER ||' 'if total < HEADER + FAULT as usize ||'
 
 cat >>"$room/copy/src/lib.rs" <<'END'
@@ -238,8 +310,8 @@ comparing() {
     case $1 in
     calls) echo library ;;
     evidence) echo one_set_under_several_names ;;
-    report) echo '\(random_plans_and_legs\|a_refused_leg_at_every_border\|a_million_legs_and_the_next\)' ;;
-    page) echo '\(random_plans\|refusals_1_to_7\|plans_that_are_not_refused\)' ;;
+    report) echo '\(random_plans_and_legs\|a_refused_leg_at_every_border\|a_million_legs_and_the_next\|party_0_is_reported\)' ;;
+    page) echo '\(random_plans\|refusals_1_to_7_and_16\|plans_that_are_not_refused\)' ;;
     esac
 }
 

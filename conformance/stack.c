@@ -15,6 +15,7 @@
 /* What is lent. */
 static uint8_t plan[65535];
 static size_t plan_len;
+static uint32_t party;
 static uint32_t counts[GAWHERINO_COUNTS];
 static uint64_t table[GAWHERINO_MAX_TABLE];
 static size_t table_len;
@@ -39,17 +40,17 @@ static uint32_t state, letter, answer;
 /* Each call: its name, in capitals too, its parameters, and what it is lent here. */
 #define EACH(X) \
     X(read, READ, (const uint8_t *a, size_t b, uint32_t *c, size_t d), (plan, plan_len, counts, GAWHERINO_COUNTS)) \
-    X(prepare, PREPARE, (const uint8_t *a, size_t b, uint64_t *c, size_t d, uint8_t *e, size_t f, uint32_t *g, size_t h), \
-      (plan, plan_len, table, table_len, letters, letters_len, evidence, GAWHERINO_EVIDENCE)) \
-    X(look_ahead, LOOK_AHEAD, (const uint8_t *a, size_t b, uint8_t *c, size_t d, uint32_t *e, size_t f), \
-      (plan, plan_len, letters, letters_len, evidence, GAWHERINO_EVIDENCE)) \
+    X(prepare, PREPARE, (const uint8_t *a, size_t b, uint32_t c, uint64_t *d, size_t e, uint8_t *f, size_t g, uint32_t *h, size_t i), \
+      (plan, plan_len, party, table, table_len, letters, letters_len, evidence, GAWHERINO_EVIDENCE)) \
+    X(look_ahead, LOOK_AHEAD, (const uint8_t *a, size_t b, uint32_t c, uint8_t *d, size_t e, uint32_t *f, size_t g), \
+      (plan, plan_len, party, letters, letters_len, evidence, GAWHERINO_EVIDENCE)) \
     X(count, COUNT, (const uint8_t *a, size_t b), (plan, plan_len)) \
-    X(check, CHECK, (const uint8_t *a, size_t b, const uint32_t *c, size_t d, const uint8_t *e, size_t f), \
-      (plan, plan_len, evidence, GAWHERINO_EVIDENCE, letters, letters_len)) \
+    X(check, CHECK, (const uint8_t *a, size_t b, uint32_t c, const uint32_t *d, size_t e, const uint8_t *f, size_t g), \
+      (plan, plan_len, party, evidence, GAWHERINO_EVIDENCE, letters, letters_len)) \
     X(write, WRITE, (const uint8_t *a, size_t b, uint8_t *c, size_t d), (plan, plan_len, out, out_len)) \
-    X(needs, NEEDS, (const uint8_t *a, size_t b, uint16_t *c, size_t d), (plan, plan_len, needs, needs_len)) \
-    X(page, PAGE, (const uint8_t *a, size_t b, uint8_t *c, size_t d, uint64_t *e, size_t f), \
-      (plan, plan_len, page, page_len, length, 1)) \
+    X(needs, NEEDS, (const uint8_t *a, size_t b, uint32_t c, uint16_t *d, size_t e), (plan, plan_len, party, needs, needs_len)) \
+    X(page, PAGE, (const uint8_t *a, size_t b, uint32_t c, uint8_t *d, size_t e, uint64_t *f, size_t g), \
+      (plan, plan_len, party, page, page_len, length, 1)) \
     X(step, STEP, (const uint64_t *a, size_t b, uint64_t c, uint32_t d, uint64_t *e, size_t f), (table, table_len, set, letter, next, 1)) \
     X(walk, WALK, (const uint64_t *a, size_t b, const uint8_t *c, size_t d, uint64_t *e, size_t f, uint64_t *g, size_t h), \
       (table, table_len, word, word_len, sets, word_len + 1, length, 1)) \
@@ -161,8 +162,10 @@ static void end_of_plan(void)
     }
 }
 
-/* Plans. */
+/* Plans: of which edition, and in edition 2 whose the next line is. */
 static uint32_t seed = 1;
+static size_t edition = 1;
+static uint8_t walker;
 
 static uint32_t below(uint32_t end)
 {
@@ -179,7 +182,7 @@ static void put16(size_t at, size_t value)
 static void begin(size_t n, size_t m, size_t p, const uint8_t *starts)
 {
     memset(plan, 0, 16);
-    put16(0, 1);
+    put16(0, edition);
     put16(2, n);
     put16(4, m);
     put16(6, p);
@@ -196,22 +199,29 @@ static void line(size_t from, size_t code, size_t to)
     plan[plan_len] = (uint8_t)from;
     plan[plan_len + 1] = (uint8_t)code;
     plan[plan_len + 2] = (uint8_t)to;
-    plan_len += 3;
+    if (edition == 2)
+        plan[plan_len + 3] = walker;
+    plan_len += edition == 2 ? 4 : 3;
     put16(8, (size_t)(plan[8] + 256 * plan[9]) + 1);
     put16(14, plan_len);
 }
 
-/* Random lines, each once; to higher stakes only if downhill, so that there is a look-ahead. */
+/* Random lines, each once; to higher stakes only if downhill, so that there is a look-ahead. Of one party, or of all. */
 static uint8_t drawn[64][32][64];
+static int mixed;
 
 static void random_lines(size_t n, size_t m, size_t e, int downhill)
 {
     memset(drawn, 0, sizeof drawn);
     while (e > 0) {
-        size_t from = below((uint32_t)n), code = below((uint32_t)m), to = below((uint32_t)n);
-        if ((downhill && from >= to) || drawn[from][code][to])
+        size_t from = below((uint32_t)n), code = below((uint32_t)(mixed ? GAWHERINO_PARTIES * m : m)), to = below((uint32_t)n);
+        if (mixed) { /* by one number: low bits come again too soon for four */
+            walker = (uint8_t)(code / m);
+            code %= m;
+        }
+        if ((downhill && from >= to) || drawn[from][code][to] >> walker & 1)
             continue;
-        drawn[from][code][to] = 1;
+        drawn[from][code][to] |= (uint8_t)(1u << walker);
         line(from, code, to);
         e--;
     }
@@ -257,9 +267,23 @@ static void lettered(const char *text, size_t n, size_t m)
 
 #define NONE (GAWHERINO_REFUSED + GAWHERINO_NO_LOOKAHEAD)
 #define SOME 65535u /* some look-ahead */
+#define EITHER 65534u /* some look-ahead or none */
 
-/* Every call on one plan with this look-ahead: reading, writing, needs and their page, counting and preparing, refused ones too; a walk;
- * claims. */
+/* Each call on plan bytes, as they are now. */
+static void on_these_bytes(void)
+{
+    measure(READ);
+    measure(COUNT);
+    measure(LOOK_AHEAD);
+    measure(PREPARE);
+    measure(CHECK);
+    measure(WRITE);
+    measure(NEEDS);
+    measure(PAGE);
+}
+
+/* Every call on one plan with this look-ahead for the party: reading, writing, needs and their page, counting and preparing, refused ones
+ * too; a walk; claims. */
 static void on_this_plan(uint32_t expected, size_t legs)
 {
     uint32_t n, m, k, i, j, lines, refused;
@@ -278,20 +302,25 @@ static void on_this_plan(uint32_t expected, size_t legs)
     out_len = GAWHERINO_MAX_WRITTEN;
     needs_len = sizeof needs / sizeof needs[0];
     page_len = sizeof page;
-    for (i = 0; i < 16; i++) { /* damaged plan bytes: one of 1 to 7, mostly */
-        size_t at = i < 8 ? 2 * i : 16 + below((uint32_t)(plan_len - 16 + 1));
+    for (i = 0; i < 18; i++) { /* damaged plan bytes: one of 1 to 7, mostly, and 16 for the last party */
+        size_t at = i < 8 ? 2 * i : i == 8 ? plan_len - 1 : 16 + below((uint32_t)(plan_len - 16 + 1));
         kept = plan[at];
         plan[at] = 255;
-        measure(READ);
-        measure(COUNT);
-        measure(LOOK_AHEAD);
-        measure(PREPARE);
-        measure(CHECK);
-        measure(WRITE);
-        measure(NEEDS);
-        measure(PAGE);
+        on_these_bytes();
         plan[at] = kept;
     }
+    if (edition == 2 && plan_len >= 16 + 2 * 4) { /* two lines that are equal, of a party that is none: 7 */
+        uint8_t end[8];
+        memcpy(end, plan + plan_len - 8, 8);
+        plan[plan_len - 5] = 200;
+        memcpy(plan + plan_len - 4, plan + plan_len - 8, 4);
+        on_these_bytes();
+        memcpy(plan + plan_len - 8, end, 8);
+    }
+    i = party;
+    party = GAWHERINO_PARTIES; /* 16, where a party is named */
+    on_these_bytes();
+    party = i;
     if (measure(WRITE) != plan_len) {
         fprintf(stderr, "stack: a plan without gaps is not written as long as it is\n");
         exit(2);
@@ -309,7 +338,7 @@ static void on_this_plan(uint32_t expected, size_t legs)
     measure(COUNT);
     measure(LOOK_AHEAD);
     k = measure(PREPARE);
-    if (expected == SOME ? k >= GAWHERINO_REFUSED : k != expected) {
+    if (expected == SOME ? k >= GAWHERINO_REFUSED : expected == EITHER ? k >= GAWHERINO_REFUSED && k != NONE : k != expected) {
         fprintf(stderr, "stack: a plan has %lu for its look-ahead\n", (unsigned long)k);
         exit(2);
     }
@@ -388,11 +417,12 @@ static void every_call(uint32_t expected, size_t legs)
     end_of_plan();
 }
 
-int main(void)
+static const uint8_t starts[2] = {0, 1};
+
+/* The plans, in one edition and for one party. */
+static void every_plan(void)
 {
-    static const uint8_t starts[2] = {0, 1};
-    size_t i, most = 0;
-    int over = 0;
+    size_t i;
 
     /* plans A to H */
     lettered("0;001;101;102", 3, 1), every_call(1, 20);
@@ -414,6 +444,27 @@ int main(void)
     every_call(0, 300);
     counters(8, 9), every_call(72, 300);
     counters(32, 32), every_call(1024, 2200);
+}
+
+int main(void)
+{
+    size_t i, most = 0;
+    int over = 0;
+
+    every_plan();
+    edition = 2;
+    party = walker = 5;
+    every_plan();
+    /* 4,096 lines of all parties, for each of them; for one alone, and for one without lines */
+    for (party = 0; party < GAWHERINO_PARTIES; party++) {
+        mixed = 1;
+        begin(64, 32, 2, starts), random_lines(64, 32, 4096, 1), every_call(SOME, 100);
+        begin(64, 32, 2, starts), random_lines(64, 32, 4096, 0), every_call(EITHER, 100);
+        mixed = 0;
+    }
+    walker = 0;
+    party = 7;
+    begin(64, 32, 2, starts), random_lines(64, 32, 4096, 0), every_call(1, 100);
     for (letter = 0; letter < 300; letter++)
         measure(GROUP);
     end_of_plan();

@@ -1,11 +1,11 @@
-/* Gawherino for C: every call on plans, tables and records, over plain numbers and lent slices. Version 2.3.0.
+/* Gawherino for C: every call on plans, tables and records, over plain numbers and lent slices. Version 3.0.0.
  *
  * USE. The plan's bytes are in plan; the logger gives one code for each leg. No call allocates, so room is lent:
  *
  *     uint64_t table[GAWHERINO_MAX_TABLE], sets[GAWHERINO_MAX_SETS];
  *     uint8_t letters[GAWHERINO_MAX_LETTERS], record[GAWHERINO_MAX_RECORD];
  *     uint32_t evidence[GAWHERINO_EVIDENCE], position[1], code, answer;
- *     answer = gawherino_prepare(plan, plan_len, table, GAWHERINO_MAX_TABLE, letters, sizeof letters, evidence, GAWHERINO_EVIDENCE);
+ *     answer = gawherino_prepare(plan, plan_len, 0, table, GAWHERINO_MAX_TABLE, letters, sizeof letters, evidence, GAWHERINO_EVIDENCE);
  *     if (!GAWHERINO_IS_REFUSED(answer)) answer = gawherino_open(table, GAWHERINO_MAX_TABLE, record, sizeof record, position, 1);
  *     if (GAWHERINO_IS_REFUSED(answer)) return refused(GAWHERINO_REFUSAL(answer));
  *     if (answer != GAWHERINO_NOTHING) booked(position[0], answer);
@@ -20,8 +20,8 @@
  *
  * ANSWERS. Each call answers a value below 65,536, or 65,536 plus the number of a refusal (document 01; named below). Further values go
  * into a lent slice, which keeps its rest. A refused call writes nothing, except that under 15 preparing and the count call write the
- * evidence. The lowest refusal that applies is given. A slice for further values with fewer places than are named at the call is refused
- * with 9, in its place among the refusals, also where the call would put nothing there.
+ * evidence. The first refusal that applies is given, in the order in which they are named at the call. A slice for further values with
+ * fewer places than are named there is refused with 9, in its place among the refusals, also where the call would put nothing there.
  *
  * SLICES. A slice is a pointer and then how many elements are lent: elements, not bytes. A pointer must be aligned as C asks for its type,
  * and all its elements must be there: nothing checks that pointer and length belong together. A null pointer goes with the length 0 only;
@@ -43,8 +43,8 @@ extern "C" {
 
 /* The version of this header. A change of a call's parameters, of what it answers, or of the table's or the record's form raises the first
  * number, a further call the second. */
-#define GAWHERINO_VERSION_MAJOR 2
-#define GAWHERINO_VERSION_MINOR 3
+#define GAWHERINO_VERSION_MAJOR 3
+#define GAWHERINO_VERSION_MINOR 0
 #define GAWHERINO_VERSION_PATCH 0
 
 /* ANSWERS */
@@ -71,13 +71,14 @@ static inline uint32_t gawherino_refusal(uint32_t answer)
 
 /* Refusals by the plan's author. */
 #define GAWHERINO_BAD_TOTAL 1u       /* fewer than 16 bytes, or the total is not the byte count */
-#define GAWHERINO_BAD_EDITION 2u     /* the edition is not 1 */
+#define GAWHERINO_BAD_EDITION 2u     /* the edition is neither 1 nor 2 */
 #define GAWHERINO_BAD_COUNT 3u       /* a count is out of its range */
 #define GAWHERINO_BAD_PART 4u        /* the starts or the lines begin before byte 16, end after the total, or overlap */
 #define GAWHERINO_BAD_START 5u       /* a start is not below n, or stands twice */
 #define GAWHERINO_BAD_LINE 6u        /* a line's stake is not below n, or its code not below m */
-#define GAWHERINO_LINE_TWICE 7u      /* a line stands twice */
+#define GAWHERINO_LINE_TWICE 7u      /* two lines are equal, in edition 2 in their party too */
 #define GAWHERINO_NO_LOOKAHEAD 15u   /* no k exists */
+#define GAWHERINO_BAD_PARTY 16u      /* a party above 7, in a line or in the call; or one other than 0 named for edition 1 */
 /* By the caller. */
 #define GAWHERINO_BAD_TABLE 8u       /* the numbers are no prepared plan */
 #define GAWHERINO_SHORT_BUFFER 9u    /* a lent slice is too short */
@@ -102,15 +103,17 @@ static inline uint32_t gawherino_refusal(uint32_t answer)
 #define GAWHERINO_MAX_CODES 32u
 #define GAWHERINO_MAX_LINES 4096u
 #define GAWHERINO_MAX_PLAN 65535u
+/* Parties are 0 to 7. */
+#define GAWHERINO_PARTIES 8u
 /* What any plan needs at most: its look-ahead k; the numbers of its table, 4 + n * m; the bytes of its record, 8 + k; the bytes for the
- * codes of evidence, n * n; the sets of an ending, k; the bytes of its one form, 16 + p + 3 * e; the needs of its critical sets,
+ * codes of evidence, n * n; the sets of an ending, k; the bytes of its one form, 16 + p + 4 * e; the needs of its critical sets,
  * n * m + 1; the bytes of its page, 41 for each of these that has a line. */
 #define GAWHERINO_MAX_LOOKAHEAD 2016u
 #define GAWHERINO_MAX_TABLE 2052u
 #define GAWHERINO_MAX_RECORD 2024u
 #define GAWHERINO_MAX_LETTERS 4096u
 #define GAWHERINO_MAX_SETS 2016u
-#define GAWHERINO_MAX_WRITTEN 12368u
+#define GAWHERINO_MAX_WRITTEN 16464u
 #define GAWHERINO_MAX_NEEDS 2049u
 #define GAWHERINO_MAX_PAGE 84009u
 /* The most legs of one walk. */
@@ -162,8 +165,9 @@ static inline uint32_t gawherino_refusal(uint32_t answer)
  *
  * A set of stakes is a 64-bit number, bit s for stake s.
  *
- * A plan is bytes: document 01 and README.md have their layout. One plan may be laid out in many ways; gawherino_write puts it into one
- * form.
+ * A plan is bytes: documents 01 and 02 and README.md have their layout. One plan may be laid out in many ways; gawherino_write puts it into
+ * one form. In edition 2 each line belongs to a party, and a call that names one uses that party's lines alone, with the starts and counts
+ * of all; for a plan of edition 1, whose lines belong to none, party 0 is named. A party without lines is fine.
  *
  * A table is 64-bit numbers: n, m, k, the starts, then at 4 + stake * m + code the set of stakes that the code leads to. They stand in the
  * machine's own byte order: keep the plan, and prepare it again on each machine, by the same version of this library.
@@ -180,49 +184,50 @@ static inline uint32_t gawherino_refusal(uint32_t answer)
 
 /* CALLS ON A PLAN */
 
-/* Reading a plan: n; into counts (3): m, p and e. Refused with 1 to 7, 9. */
+/* Reading a plan: n; into counts (3): m, p and e, of all parties. Refused with 1 to 7, 16, 9. */
 uint32_t gawherino_read(const uint8_t *plan, size_t plan_len, uint32_t *counts, size_t counts_len);
 
-/* Preparing a plan: k, and its table (4 + n * m numbers). Refused with 1 to 7, 9, 15.
+/* Preparing a plan for a party, any number: k, and its table (4 + n * m numbers). Refused with 1 to 7, 16, 9, 15.
  * A critical set counts if it is the set of starts, or what a code leads to from a stake that some walk from a start reaches: stakes that
  * no walk reaches any more neither raise k nor cause 15.
  * Under 15, into evidence (6): the critical set's stake and code, stakes s and t, the lengths of the lead-in and of the loop; and into
  * letters (n * n bytes) the lead-in's codes and then the loop's codes. */
-uint32_t gawherino_prepare(const uint8_t *plan, size_t plan_len, uint64_t *table, size_t table_len, uint8_t *letters, size_t letters_len,
-                           uint32_t *evidence, size_t evidence_len);
+uint32_t gawherino_prepare(const uint8_t *plan, size_t plan_len, uint32_t party, uint64_t *table, size_t table_len, uint8_t *letters,
+                           size_t letters_len, uint32_t *evidence, size_t evidence_len);
 
-/* The count call: k, without a table; its evidence as under preparing. Refused with 1 to 7, 9, 15. */
-uint32_t gawherino_look_ahead(const uint8_t *plan, size_t plan_len, uint8_t *letters, size_t letters_len, uint32_t *evidence,
-                              size_t evidence_len);
+/* The count call: k for a party, without a table; its evidence as under preparing. Refused with 1 to 7, 16, 9, 15. */
+uint32_t gawherino_look_ahead(const uint8_t *plan, size_t plan_len, uint32_t party, uint8_t *letters, size_t letters_len,
+                              uint32_t *evidence, size_t evidence_len);
 
-/* The drawing program's entry: k, with no lent buffer. Refused with 1 to 7, 15. */
+/* The drawing program's entry: k for party 0, with no lent buffer. Refused with 1 to 7, 16, 15. */
 uint32_t gawherino_count(const uint8_t *plan, size_t plan_len);
 
-/* The check of a claim, given as evidence is: 1 for yes, 0 for no; a claim of fewer than six numbers is no, and numbers past the sixth are
- * not read; a claim that names the critical set of a stake that no walk reaches is no. Refused with 1 to 7. */
-uint32_t gawherino_check(const uint8_t *plan, size_t plan_len, const uint32_t *claim, size_t claim_len, const uint8_t *letters,
-                         size_t letters_len);
+/* The check of a claim for a party, given as evidence is: 1 for yes, 0 for no; a claim of fewer than six numbers is no, and numbers past the
+ * sixth are not read; a claim that names the critical set of a stake that no walk of the party reaches is no. Refused with 1 to 7, 16. */
+uint32_t gawherino_check(const uint8_t *plan, size_t plan_len, uint32_t party, const uint32_t *claim, size_t claim_len,
+                         const uint8_t *letters, size_t letters_len);
 
-/* Writing a plan in its one form: how many bytes it wrote; into out (16 + p + 3 * e bytes, also where the plan has more): the plan with its
- * starts at 16, ascending, and its lines directly behind them, ascending by from, code and to. Equal n, m, starts and lines give equal
- * bytes, and different ones different bytes. Refused with 1 to 7, 9. */
+/* Writing a plan in its one form: how many bytes it wrote; into out (16 + p + 3 * e bytes, in edition 2 16 + p + 4 * e, also where the plan
+ * has more): the plan, in its edition, its starts at 16, ascending, and its lines directly behind them, ascending by from, code, to, party.
+ * Within an edition equal n, m, starts and lines give equal bytes, and different ones different bytes. Refused with 1 to 7, 16, 9. */
 uint32_t gawherino_write(const uint8_t *plan, size_t plan_len, uint8_t *out, size_t out_len);
 
-/* The need of each critical set by itself: how many numbers it wrote, n * m + 1; into needs: at 0 that of the starts, at
+/* The need of each critical set by itself, for a party: how many numbers it wrote, n * m + 1; into needs: at 0 that of the starts, at
  * 1 + stake * m + code that of what the code leads to from the stake. A need is the least k for which no two different stakes of the set
  * can be walked on from by the same k codes: 0 for a set of one stake, never more than 2,016. 65,535 is a set that has none, 65,534 one
  * that is empty, the starts too, or does not count (a fork of a stake that no walk reaches). If no number is 65,535, the plan's k is the
  * largest of those other than 65,534, or 0 if there is no other; else preparing and the count answer 15, lent slices being long enough.
- * Refused with 1 to 7, 9, and never with 15. */
-uint32_t gawherino_needs(const uint8_t *plan, size_t plan_len, uint16_t *needs, size_t needs_len);
+ * Refused with 1 to 7, 16, 9, and never with 15. */
+uint32_t gawherino_needs(const uint8_t *plan, size_t plan_len, uint32_t party, uint16_t *needs, size_t needs_len);
 
-/* The needs as a page to hang up: 0; into length (1): how many bytes it wrote, 41 for each set that counts and is not empty; into page:
- * those sets' lines in the order of gawherino_needs, each of 40 characters and a line feed. Columns 1 to 4 have the stake and 6 to 9 the
- * code, both right-aligned (for the starts `from`, and blanks for the code); 11 to 16 the need, right-aligned, or a dash in column 16 where
- * there is none; 18 to 40 a bar, a hash sign for each stake of the set, 23 at the most. All other columns are blanks, the trailing ones
- * too. A plan has a page also where preparing answers 15; one without starts has an empty page. Refused with 1 to 7, and with 9 where
- * fewer bytes are lent than this plan's page has. */
-uint32_t gawherino_page(const uint8_t *plan, size_t plan_len, uint8_t *page, size_t page_len, uint64_t *length, size_t length_len);
+/* The needs for a party as a page to hang up: 0; into length (1): how many bytes it wrote, 41 for each set that counts and is not empty;
+ * into page: those sets' lines in the order of gawherino_needs, each of 40 characters and a line feed. Columns 1 to 4 have the stake and 6
+ * to 9 the code, both right-aligned (for the starts `from`, and blanks for the code); 11 to 16 the need, right-aligned, or a dash in column
+ * 16 where there is none; 18 to 40 a bar, a hash sign for each stake of the set, 23 at the most. All other columns are blanks, the trailing
+ * ones too. A plan has a page also where preparing answers 15; one without starts has an empty page. Refused with 1 to 7, 16, and with 9
+ * where fewer bytes are lent than this page has. */
+uint32_t gawherino_page(const uint8_t *plan, size_t plan_len, uint32_t party, uint8_t *page, size_t page_len, uint64_t *length,
+                        size_t length_len);
 
 /* CALLS ON A TABLE */
 

@@ -11,13 +11,13 @@ macro_rules! every_call {
         $to! {
             $($told)*
             fn read(plan: &[u8], counts: &mut [u32]);
-            fn prepare(plan: &[u8], table: &mut [u64], letters: &mut [u8], evidence: &mut [u32]);
-            fn look_ahead(plan: &[u8], letters: &mut [u8], evidence: &mut [u32]);
+            fn prepare(plan: &[u8], party: u32, table: &mut [u64], letters: &mut [u8], evidence: &mut [u32]);
+            fn look_ahead(plan: &[u8], party: u32, letters: &mut [u8], evidence: &mut [u32]);
             fn count(plan: &[u8]);
-            fn check(plan: &[u8], claim: &[u32], letters: &[u8]);
+            fn check(plan: &[u8], party: u32, claim: &[u32], letters: &[u8]);
             fn write(plan: &[u8], out: &mut [u8]);
-            fn needs(plan: &[u8], needs: &mut [u16]);
-            fn page(plan: &[u8], page: &mut [u8], length: &mut [u64]);
+            fn needs(plan: &[u8], party: u32, needs: &mut [u16]);
+            fn page(plan: &[u8], party: u32, page: &mut [u8], length: &mut [u64]);
             fn step(table: &[u64], set: u64, letter: u32, next: &mut [u64]);
             fn walk(table: &[u64], word: &[u8], sets: &mut [u64], length: &mut [u64]);
             fn judge(table: &[u64], state: u32, letter: u32, word: &[u8], sets: &mut [u64]);
@@ -36,6 +36,13 @@ pub struct Description {
     pub parameters: &'static [Parameter],
     /// Runs it with what is given for each parameter.
     pub run: fn(&dyn Calls, &mut [Given]) -> u32,
+}
+
+impl Description {
+    /// Whether it has a parameter of this name.
+    pub fn takes(&self, name: &str) -> bool {
+        self.parameters.iter().any(|parameter| parameter.name == name)
+    }
 }
 
 macro_rules! interface {

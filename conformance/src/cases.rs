@@ -1,8 +1,9 @@
-//! A case is one call with all it is lent, a whole session, how long a plan lets wait, or its sets' numbers together; running a call on the
-//! reference and on a subject must give the same reply and the same elements in every lent slice.
+//! A case is one call with all it is lent, a whole session, how long a plan lets wait, its sets' numbers together, or a party alone; running
+//! a call on the reference and on a subject must give the same reply and the same elements in every lent slice.
 
+use crate::alone::Alone;
 use crate::calls::{Calls, Description, CALLS};
-use crate::classes::met;
+use crate::classes::{in_its_edition, met};
 use crate::forms::{evidence, letters, REFUSED};
 use crate::lent::{hex, pattern, Element, Given};
 use crate::reference::calls::{why, Reference};
@@ -24,6 +25,7 @@ pub enum Case {
     Session(Session),
     Waiting(Waiting),
     Together(Together),
+    Alone(Alone),
 }
 
 /// A reply, and the call with what its slices hold then. Input slices are lent as copies, so that writing into one shows too.
@@ -69,6 +71,16 @@ impl Call {
         number
     }
 
+    /// The plan bytes that it is lent, if it is one on a plan.
+    pub fn plan(&self) -> Option<&[u8]> {
+        self.place("plan").map(|place| u8::slice(&self.given[place]))
+    }
+
+    /// The party that is named: 0 where the call takes none.
+    pub fn party(&self) -> u32 {
+        self.place("party").map_or(0, |_| self.number("party") as u32)
+    }
+
     /// Writes the beginning of a slice.
     pub fn write<T: Element>(&mut self, name: &str, beginning: &[T]) {
         let place = self.place(name).expect(name);
@@ -100,7 +112,7 @@ impl Call {
         let (numbers, codes): (&[u32], &[u8]) = (left.slice("evidence"), left.slice("letters"));
         let wrong = |what: &str| Err(format!("{what}: evidence {}, letters {}", hex(numbers), hex(codes)));
         let bytes = self.slice("plan");
-        let plan = plan::read(bytes).expect("15 comes after 1 to 7").plan;
+        let plan = plan::read_for(bytes, self.party()).expect("15 comes after 1 to 7 and 16");
         let length = numbers[evidence::LEAD_IN] as usize + numbers[evidence::LOOP] as usize;
         if length > letters(plan.n) {
             return wrong("lead-in and loop are longer than n × n");
@@ -113,7 +125,7 @@ impl Call {
         if !claim::holds(&plan, claim, codes) {
             return wrong("the reference's check says no to the evidence");
         }
-        if subject.check(bytes, claim, codes) != 1 {
+        if subject.check(bytes, self.party(), claim, codes) != 1 {
             return wrong("the subject's own check says no to its evidence");
         }
         Ok(())
@@ -149,14 +161,23 @@ pub fn show_reply(reply: u32) -> String {
 }
 
 impl Case {
-    /// Answers the classes that were met, or what the reference and the subject disagree about.
+    /// Answers the classes that were met, each by itself and as one of the plan's edition, or what the reference and the subject disagree
+    /// about.
     pub fn compare(&self, subject: &dyn Calls) -> Result<Vec<String>, String> {
-        match self {
-            Case::Call(call) => call.compare(subject),
-            Case::Session(session) => session.compare(subject),
-            Case::Waiting(waiting) => waiting.compare(subject),
-            Case::Together(together) => together.compare(subject),
-        }
+        let (met, plan) = match self {
+            Case::Call(call) => (call.compare(subject)?, call.plan()),
+            Case::Session(session) => (session.compare(subject)?, Some(session.plan.as_slice())),
+            Case::Waiting(waiting) => (waiting.compare(subject)?, Some(waiting.plan.as_slice())),
+            Case::Together(together) => (together.compare(subject)?, Some(together.plan.as_slice())),
+            Case::Alone(alone) => (alone.compare(subject)?, Some(alone.plan.as_slice())),
+        };
+        Ok(in_its_edition(met, plan))
+    }
+
+    /// Of a case that is one call.
+    pub fn call(&self) -> &Call {
+        let Case::Call(call) = self else { panic!("{} is not one call", self.show()) };
+        call
     }
 
     /// In hexadecimal, so that it can be built again by hand.
@@ -166,6 +187,7 @@ impl Case {
             Case::Session(session) => session.show(),
             Case::Waiting(waiting) => waiting.show(),
             Case::Together(together) => together.show(),
+            Case::Alone(alone) => alone.show(),
         }
     }
 }

@@ -1,13 +1,15 @@
 //! The classes of replies: which one a call's outcome is of, and all that a run must meet, since a comparison that never met a case proves
 //! nothing about it.
 
+use crate::calls::CALLS;
 use crate::cases::{Call, Outcome};
-use crate::forms::plan::{length, number, E, HEADER, LINE, LINES_AT, M, N, P, STARTS_AT, TOTAL};
+use crate::forms::plan::{form_length, line, number, set_number, E, EDITION, EDITIONS, HEADER, LINES_AT, M, N, P, STARTS_AT, TOTAL};
 use crate::forms::record::{legs, BOOKED};
-use crate::forms::{max_look_ahead, needs, page, table, GROUPS, MAX_CODES, MAX_LINES, MAX_STAKES, NOTHING, REFUSED, STARTS};
-use crate::reference::claim::holds_of_any_set;
+use crate::forms::{max_look_ahead, needs, page, table, GROUPS, MAX_CODES, MAX_LINES, MAX_STAKES, NOTHING, PARTIES, REFUSED, STARTS};
+use crate::lent::{Given, Kind};
+use crate::reference::claim::{holds, holds_of_any_set};
 use crate::reference::lookahead::{least, look_ahead, needs as needs_of};
-use crate::reference::plan::{read, Name, Plan};
+use crate::reference::plan::{read, read_for, Line, Name, Plan, Read};
 use crate::reference::table::plan_of;
 use crate::reference::{size, Stakes};
 use std::ops::RangeInclusive;
@@ -29,11 +31,11 @@ pub fn met(call: &Call, outcome: &Outcome, why: &str) -> Vec<String> {
     let name = call.what.name;
     let further = match (name, outcome.reply.checked_sub(REFUSED)) {
         ("write", None) => to_write(call.slice("plan"), outcome.left.slice::<u8>("out").len()),
-        ("write", Some(9)) => too_short(form_of(call.slice("plan")), outcome.left.slice::<u8>("out").len()),
+        ("write", Some(9)) => too_short(form_length(call.slice("plan")), outcome.left.slice::<u8>("out").len()),
         ("needs", None) => numbered(&plan_given(call), outcome.left.slice("needs"), outcome.reply as usize),
         ("needs", Some(9)) => too_short(numbers_of(call.slice("plan")), outcome.left.slice::<u16>("needs").len()),
         ("page", None) => paged(&plan_given(call), outcome.left.slice::<u8>("page").len()),
-        ("page", Some(9)) if why == "page" => too_short(page_of(call.slice("plan")), outcome.left.slice::<u8>("page").len()),
+        ("page", Some(9)) if why == "page" => too_short(page_of(&plan_given(call)), outcome.left.slice::<u8>("page").len()),
         ("prepare" | "look_ahead" | "count", None | Some(15)) => narrowed(&plan_given(call), outcome.reply),
         ("check", None) => claimed(&plan_given(call), call.slice("claim"), call.slice("letters")),
         ("step", None) => stepped(call, outcome.left.slice("next")[0]),
@@ -42,9 +44,24 @@ pub fn met(call: &Call, outcome: &Outcome, why: &str) -> Vec<String> {
         ("feed" | "finish", None | Some(14)) => based(call, outcome.reply),
         _ => vec![],
     };
+    let further = further.into_iter().map(String::from).chain(of_parties(call, outcome, why));
     let mut met = vec![class(outcome, why)];
-    met.extend(further.iter().map(|class| format!("{name} {class}")));
+    met.extend(further.map(|class| format!("{name} {class}")));
     met
+}
+
+/// The class of one edition.
+fn in_edition(edition: usize, class: &str) -> String {
+    format!("edition {edition}: {class}")
+}
+
+/// The classes, and each of them as one of the plan's edition, if there is a plan and it has one.
+pub fn in_its_edition(met: Vec<String>, plan: Option<&[u8]>) -> Vec<String> {
+    let edition = plan.filter(|plan| plan.len() >= HEADER).map(|plan| number(plan, EDITION));
+    match edition.filter(|edition| EDITIONS.contains(edition)) {
+        Some(edition) => met.into_iter().flat_map(|class| [in_edition(edition, &class), class]).collect(),
+        None => met,
+    }
 }
 
 /// Of a list of classes those that apply.
@@ -54,10 +71,10 @@ fn applying(classes: &[(&'static str, bool)]) -> Vec<&'static str> {
 
 /// Of a plan that was written: in which ways it was not in its one form, and how much was lent.
 fn to_write(plan: &[u8], lent: usize) -> Vec<&'static str> {
-    let [p, e, starts_at, lines_at, total] = [P, E, STARTS_AT, LINES_AT, TOTAL].map(|place| number(plan, place));
-    let (starts_end, lines_end) = (starts_at + p, lines_at + LINE * e);
-    let lines: Vec<&[u8]> = plan[lines_at..lines_end].chunks(LINE).collect();
-    let both = p > 0 && e > 0;
+    let [edition, p, e, starts_at, lines_at, total] = [EDITION, P, E, STARTS_AT, LINES_AT, TOTAL].map(|place| number(plan, place));
+    let (starts_end, lines_end) = (starts_at + p, lines_at + line(edition) * e);
+    let lines: Vec<&[u8]> = plan[lines_at..lines_end].chunks(line(edition)).collect();
+    let (both, form) = (p > 0 && e > 0, form_length(plan));
     applying(&[
         ("starts out of order", !plan[starts_at..starts_end].is_sorted()),
         ("lines out of order", !lines.is_sorted()),
@@ -70,17 +87,15 @@ fn to_write(plan: &[u8], lent: usize) -> Vec<&'static str> {
         ("neither starts nor lines", p == 0 && e == 0),
         ("64 starts", p == MAX_STAKES),
         ("4,096 lines", e == MAX_LINES),
-        ("room for the form alone", lent == length(p, e)),
-        ("more room", lent > length(p, e)),
+        ("lines out of order by their parties alone", !lines.is_sorted() && lines.is_sorted_by_key(|line| &line[..3])),
+        ("lines by party first", !lines.is_sorted() && lines.is_sorted_by_key(|line| (&line[3..], *line))),
+        ("room for the form alone", lent == form),
+        ("more room", lent > form),
         ("less room than the plan has bytes", lent < total),
     ])
 }
 
-/// How many bytes the one form of a plan has, and how many numbers its sets have.
-fn form_of(plan: &[u8]) -> usize {
-    length(number(plan, P), number(plan, E))
-}
-
+/// How many numbers the sets of a plan have.
 fn numbers_of(plan: &[u8]) -> usize {
     needs::length(number(plan, N), number(plan, M))
 }
@@ -103,9 +118,9 @@ fn lines_of(plan: &Plan) -> Vec<PageLine> {
     plan.every_set().into_iter().map(line).filter(|line| line.need != needs::UNMEASURED).collect()
 }
 
-/// How many bytes the page of a plan has, if it has one.
-fn page_of(plan: &[u8]) -> usize {
-    read(plan).map_or(0, |read| page::LINE * lines_of(&read.plan).len())
+/// How many bytes the page of a plan has.
+fn page_of(plan: &Plan) -> usize {
+    page::LINE * lines_of(plan).len()
 }
 
 /// Of a plan that was refused with 9 where its form, its numbers or its page were to be written: by how much.
@@ -113,9 +128,141 @@ fn too_short(needed: usize, lent: usize) -> Vec<&'static str> {
     applying(&[("9: short by one", lent + 1 == needed), ("9: nothing lent", lent == 0)])
 }
 
-/// The plan of bytes that were not refused with 1 to 7.
+/// The plan, for the party that is named, of bytes that were not refused with 1 to 7 or 16.
 fn plan_given(call: &Call) -> Plan {
-    read(call.slice("plan")).expect("passes 1 to 7").plan
+    read_for(call.slice("plan"), call.party()).expect("passes 1 to 7 and 16")
+}
+
+/// W-207, of a call on plan bytes: the parties of lines and the one that is named, beside what the reply is.
+fn of_parties(call: &Call, outcome: &Outcome, why: &str) -> Vec<String> {
+    let Some(plan) = call.plan().filter(|plan| plan.len() >= HEADER) else { return vec![] };
+    let refusal = outcome.reply.checked_sub(REFUSED);
+    let met = match refusal {
+        None | Some(9 | 15) => by_parties(call, outcome, &read(plan).expect("passes 1 to 7 and 16")),
+        Some(2) => applying(&[("2: edition 0", number(plan, EDITION) == 0), ("2: edition 3", number(plan, EDITION) == 3)]),
+        Some(4) => misplaced(plan, why),
+        Some(6 | 7) => beside_a_party(plan, refusal == Some(7)),
+        Some(16) => of_no_party(call, plan),
+        _ => vec![],
+    };
+    let further = match refusal {
+        None => Some(for_party(call.party())),
+        Some(number @ 1..=7) if call.party() >= PARTIES => Some(beside_no_party(number)),
+        _ => None,
+    };
+    met.into_iter().map(String::from).chain(further).collect()
+}
+
+fn for_party(party: u32) -> String {
+    format!("for party {party}")
+}
+
+/// A refusal that comes before 16, though the party that is named is none.
+fn beside_no_party(number: u32) -> String {
+    format!("{number}: beside a party that is none")
+}
+
+/// The lines of a plan whose part of them is in its place, with their parties.
+fn lines_in(plan: &[u8]) -> Vec<Line> {
+    let (width, at) = (line(number(plan, EDITION)), number(plan, LINES_AT));
+    let with_party = |line: &[u8]| [line[0], line[1], line[2], line.get(3).copied().unwrap_or(0)];
+    plan[at..at + width * number(plan, E)].chunks(width).map(with_party).collect()
+}
+
+fn is_no_party(line: &Line) -> bool {
+    line[3] as u32 >= PARTIES
+}
+
+/// Lines that agree with another one in so many bytes.
+fn agreeing(lines: &[Line], bytes: usize) -> Vec<Line> {
+    let mut lines = lines.to_vec();
+    lines.sort();
+    lines.windows(2).filter(|pair| pair[0][..bytes] == pair[1][..bytes]).map(|pair| pair[1]).collect()
+}
+
+/// Of a plan that passes 16: which parties have lines, and what those of others would have made of the reply.
+fn by_parties(call: &Call, outcome: &Outcome, read: &Read) -> Vec<&'static str> {
+    let has_lines: Vec<u32> = (0..PARTIES).filter(|&party| read.lines.iter().any(|line| line[3] as u32 == party)).collect();
+    let own = read.lines.iter().filter(|line| line[3] as u32 == call.party()).count();
+    let mut met = applying(&[
+        ("lines that differ in the party alone", !agreeing(&read.lines, 3).is_empty()),
+        ("lines of every party", has_lines.len() == PARTIES as usize),
+        ("a party without lines, others with lines", own == 0 && read.e > 0),
+        ("lines of the party and of others", own > 0 && own < read.e),
+        ("4,096 lines", read.e == MAX_LINES),
+    ]);
+    let others = || has_lines.iter().filter(|&&party| party != call.party()).map(|&party| read.of(party).expect("a party's plan"));
+    match (call.what.name, outcome.reply) {
+        // not for many lines: it takes its time
+        ("prepare" | "look_ahead" | "count", reply) if read.e < 500 && reply != REFUSED + 9 => {
+            let k = (reply < REFUSED).then_some(reply as usize);
+            let mut all = read.of(call.party()).expect("the named party's");
+            others().for_each(|other| all.lines.iter_mut().zip(other.lines).for_each(|(lines, more)| lines.extend(more)));
+            met.extend(applying(&[
+                ("k, but 15 for another party", k.is_some() && others().any(|other| look_ahead(&other).is_none())),
+                ("15, but k for another party", k.is_none() && others().any(|other| look_ahead(&other).is_some())),
+                ("k, but 15 by all lines", k.is_some() && look_ahead(&all).is_none()),
+                ("k, but another by all lines", k.is_some() && look_ahead(&all).is_some_and(|all| Some(all) != k)),
+            ]));
+        }
+        ("check", said) => {
+            let otherwise = others().any(|other| holds(&other, call.slice("claim"), call.slice("letters")) as u32 != said);
+            met.extend(applying(&[
+                ("yes, but no for another party", said == 1 && otherwise),
+                ("no, but yes for another party", said == 0 && otherwise),
+            ]));
+        }
+        _ => {}
+    }
+    met
+}
+
+/// Of a plan of edition 2 that is refused with 4: whether it would be if its lines had three bytes.
+fn misplaced(plan: &[u8], why: &str) -> Vec<&'static str> {
+    let mut narrow = plan.to_vec();
+    set_number(&mut narrow, EDITION, 1);
+    let is_placed = number(plan, EDITION) == 2 && !read(&narrow).is_err_and(|refusal| refusal.number <= 4);
+    applying(&[
+        ("4: lines past the total, but not if of three bytes", is_placed && why == "lines past the total"),
+        ("4: parts overlap, but not if lines had three bytes", is_placed && why == "parts overlap"),
+    ])
+}
+
+/// Of a plan that is refused with 6 or 7, while some line's party is above 7.
+fn beside_a_party(plan: &[u8], is_twice: bool) -> Vec<&'static str> {
+    let lines = lines_in(plan);
+    let (high, twice) = (lines.iter().any(is_no_party), agreeing(&lines, 4));
+    applying(&[
+        ("6: beside a party above 7", !is_twice && high),
+        ("7: of a party above 7", is_twice && twice.iter().all(is_no_party)),
+        ("7: beside a party above 7", is_twice && high && !twice.iter().any(is_no_party)),
+    ])
+}
+
+/// Of a call that is refused with 16: which numbers are no party's, and whether it was lent anything.
+fn of_no_party(call: &Call, plan: &[u8]) -> Vec<&'static str> {
+    let (lines, named) = (lines_in(plan), call.party());
+    let high: Vec<Line> = lines.iter().filter(|line| is_no_party(line)).copied().collect();
+    let (in_a_line, is_first) = (!high.is_empty(), number(plan, EDITION) == 1);
+    let outputs = call.what.parameters.iter().zip(&call.given).filter(|(parameter, _)| matches!(parameter.kind, Kind::Output));
+    let lent: Vec<&Given> = outputs.map(|(_, given)| given).collect();
+    let is_lent_nothing = !lent.is_empty() && lent.iter().all(|given| **given == Given::Room(0));
+    let is_low_byte = (named & 255) < PARTIES;
+    applying(&[
+        ("16: party 8 in a line", high.iter().any(|line| line[3] == 8)),
+        ("16: party 200 or more in a line", high.iter().any(|line| line[3] >= 200)),
+        ("16: in the last line alone", in_a_line && high.len() == 1 && is_no_party(&lines[lines.len() - 1])),
+        ("16: in lines that differ in parties above 7 alone", !agreeing(&high, 3).is_empty()),
+        ("16: in a line, one of 0 to 7 named", in_a_line && named < PARTIES),
+        ("16: in a line, nothing lent", in_a_line && is_lent_nothing),
+        ("16: party 8 named", !in_a_line && !is_first && named == 8),
+        ("16: party 9 to 255 named", !in_a_line && (9..256).contains(&named)),
+        ("16: party 256 or more named, of which the low byte is one", !in_a_line && named > 255 && is_low_byte),
+        ("16: the greatest number named", !in_a_line && named == u32::MAX),
+        ("16: named, nothing lent", !in_a_line && is_lent_nothing),
+        ("16: party 3 named for edition 1", is_first && named == 3),
+        ("16: named for edition 1, no lines", is_first && lines.is_empty()),
+    ])
 }
 
 /// W-202, of a count or 15: what the forks that don't count would make of it, and whether forks far from the starts decide it.
@@ -348,10 +495,9 @@ fn class(Outcome { reply, left }: &Outcome, why: &str) -> String {
     format!("{name} {kind}")
 }
 
+/// Refusals of plan bytes of no edition.
+const NO_EDITION: &[&str] = &["1: fewer than 16 bytes", "1: total not the byte count", "2: edition", "2: edition 0", "2: edition 3"];
 const PLAN: &[&str] = &[
-    "1: fewer than 16 bytes",
-    "1: total not the byte count",
-    "2: edition",
     "3: n out of range",
     "3: m out of range",
     "3: p out of range",
@@ -400,8 +546,12 @@ const NARROWED: &[&str] = &[
 ];
 const EVIDENCE: &[&str] = &["9: letters", "9: evidence"];
 
-/// For each call, and for sessions, waiting and sets together: every answer and every refusal, with each part of a refusal's sentence.
-const CLASSES: &[(&str, &[&[&str]])] = &[
+/// A name, and the classes under it.
+type Listed = (&'static str, &'static [&'static [&'static str]]);
+
+/// For each call, and for sessions, waiting, sets together and parties alone: every answer and every refusal, with each part of a
+/// refusal's sentence. Where there are plan bytes, each is to be met in both editions.
+const CLASSES: &[Listed] = &[
     ("read", &[PLAN, &["counts", "9: counts"]]),
     ("prepare", &[PLAN, &["9: table"], EVIDENCE, COUNT, NO_COUNT, NARROWED]),
     ("look_ahead", &[PLAN, EVIDENCE, COUNT, NO_COUNT, NARROWED]),
@@ -453,10 +603,86 @@ const CLASSES: &[(&str, &[&[&str]])] = &[
     ("waiting in doubt,", &[&["though a later position has one stake", "a larger k if every set counted", "15 if every set counted"]]),
     ("waiting with a position certain,", &[COUNT]),
     ("together", &[COUNT, &["k 0, no number", "15, the starts named", "15, a fork named", "15 by one set alone", "15 by several sets"]]),
+    ("alone", &[COUNT, &["15", "with all lines"]]),
+];
+
+/// W-207, in edition 2: of a call on plan bytes, and of one that names a party.
+const PARTED: &[&str] = &[
+    "4: lines past the total, but not if of three bytes",
+    "4: parts overlap, but not if lines had three bytes",
+    "6: beside a party above 7",
+    "7: of a party above 7",
+    "7: beside a party above 7",
+    "16: a line's party above 7",
+    "16: party 8 in a line",
+    "16: party 200 or more in a line",
+    "16: in the last line alone",
+    "16: in lines that differ in parties above 7 alone",
+    "lines that differ in the party alone",
+    "lines of every party",
+    "a party without lines, others with lines",
+    "lines of the party and of others",
+    "4,096 lines",
+];
+const PARTY_NAMED: &[&str] = &[
+    "16: the party named above 7",
+    "16: party 8 named",
+    "16: party 9 to 255 named",
+    "16: party 256 or more named, of which the low byte is one",
+    "16: the greatest number named",
+    "16: in a line, one of 0 to 7 named",
+];
+const LENT_NOTHING: &[&str] = &["16: in a line, nothing lent"];
+const NAMED_AND_LENT_NOTHING: &[&str] = &["16: named, nothing lent"];
+const BY_PARTY: &[&str] =
+    &["k, but 15 for another party", "15, but k for another party", "k, but 15 by all lines", "k, but another by all lines"];
+const CLASSES_OF_EDITION_2: &[Listed] = &[
+    ("read", &[PARTED, LENT_NOTHING]),
+    ("prepare", &[PARTED, PARTY_NAMED, LENT_NOTHING, NAMED_AND_LENT_NOTHING, BY_PARTY]),
+    ("look_ahead", &[PARTED, PARTY_NAMED, LENT_NOTHING, NAMED_AND_LENT_NOTHING, BY_PARTY]),
+    ("count", &[PARTED, BY_PARTY]),
+    ("check", &[PARTED, PARTY_NAMED, &["yes, but no for another party", "no, but yes for another party"]]),
+    ("write", &[PARTED, LENT_NOTHING, &["lines out of order by their parties alone", "lines by party first"]]),
+    ("needs", &[PARTED, PARTY_NAMED, LENT_NOTHING, NAMED_AND_LENT_NOTHING]),
+    ("page", &[PARTED, PARTY_NAMED, LENT_NOTHING, NAMED_AND_LENT_NOTHING]),
+    ("alone", &[&["with some of the lines", "without lines, others with lines"]]),
+];
+/// Of a call that names a party, in edition 1.
+const CLASSES_OF_EDITION_1: &[&str] = &[
+    "16: a party other than 0 named for edition 1",
+    "16: the party named above 7",
+    "16: party 3 named for edition 1",
+    "16: named for edition 1, no lines",
 ];
 
 /// Every class that a run must meet.
 pub fn classes() -> Vec<String> {
-    let of = |(name, lists): &(&str, &[&[&str]])| lists.concat().iter().map(|class| format!("{name} {class}")).collect::<Vec<_>>();
-    CLASSES.iter().flat_map(of).collect()
+    let of = |(name, lists): &Listed| lists.concat().iter().map(|class| format!("{name} {class}")).collect::<Vec<_>>();
+    let of_calls = |parameter: &str, list: &[String]| -> Vec<String> {
+        let calls = CALLS.iter().filter(|call| call.takes(parameter));
+        calls.flat_map(|call| list.iter().map(move |class| format!("{} {class}", call.name))).collect()
+    };
+    let strings = |list: &[&str]| list.iter().map(|class| class.to_string()).collect::<Vec<_>>();
+    let beside: Vec<String> = (1..=7).map(beside_no_party).collect();
+    let mut classes = [of_calls("plan", &strings(NO_EDITION)), of_calls("party", &beside)].concat();
+    for listed in CLASSES {
+        let is_on_plan = CALLS.iter().all(|call| call.name != listed.0 || call.takes("plan"));
+        for class in of(listed) {
+            if is_on_plan {
+                classes.extend(EDITIONS.map(|edition| in_edition(edition, &class)));
+            } else {
+                classes.push(class);
+            }
+        }
+    }
+    let each_party: Vec<String> = (0..PARTIES).map(for_party).collect();
+    classes.extend(of_calls("party", &strings(CLASSES_OF_EDITION_1)).iter().map(|class| in_edition(1, class)));
+    classes.extend(of_calls("party", &each_party).iter().map(|class| in_edition(2, class)));
+    classes.extend(CLASSES_OF_EDITION_2.iter().flat_map(of).map(|class| in_edition(2, &class)));
+    classes
+}
+
+/// Whether there are classes of replies under this name.
+pub fn has_classes(name: &str) -> bool {
+    CLASSES.iter().any(|listed| listed.0 == name)
 }

@@ -1,23 +1,97 @@
 //! Plans as lists, their bytes, and families of plans whose count is known.
 
-use crate::forms::plan::{header, length, HEADER, LINE};
+use crate::forms::plan::{header, length, line, HEADER};
 
+/// A line of edition 1: from, code, to; and of edition 2, with its party.
 pub type Line = (u8, u8, u8);
+pub type PartyLine = (u8, u8, u8, u8);
 
-/// A plan as a list of starts and lines, before it is bytes.
+/// A line of one of the editions.
+pub trait AnyLine: Copy + Ord {
+    const EDITION: usize;
+    fn to_bytes(self) -> Vec<u8>;
+    fn from_bytes(bytes: &[u8]) -> Self;
+    /// From, code and to.
+    fn walked(self) -> Line;
+    /// The same party's line, or the same edition's, with another from, code and to.
+    fn with(self, walked: Line) -> Self;
+}
+
+impl AnyLine for Line {
+    const EDITION: usize = 1;
+
+    fn to_bytes(self) -> Vec<u8> {
+        vec![self.0, self.1, self.2]
+    }
+
+    fn from_bytes(bytes: &[u8]) -> Line {
+        (bytes[0], bytes[1], bytes[2])
+    }
+
+    fn walked(self) -> Line {
+        self
+    }
+
+    fn with(self, walked: Line) -> Line {
+        walked
+    }
+}
+
+impl AnyLine for PartyLine {
+    const EDITION: usize = 2;
+
+    fn to_bytes(self) -> Vec<u8> {
+        vec![self.0, self.1, self.2, self.3]
+    }
+
+    fn from_bytes(bytes: &[u8]) -> PartyLine {
+        (bytes[0], bytes[1], bytes[2], bytes[3])
+    }
+
+    fn walked(self) -> Line {
+        (self.0, self.1, self.2)
+    }
+
+    fn with(self, (from, code, to): Line) -> PartyLine {
+        (from, code, to, self.3)
+    }
+}
+
+/// A plan as a list of starts and lines, before it is bytes. Its lines say of which edition.
 #[derive(Clone, Debug, PartialEq, Eq)]
-pub struct Draft {
+pub struct Draft<L = Line> {
     pub n: usize,
     pub m: usize,
     pub starts: Vec<u8>,
-    pub lines: Vec<Line>,
+    pub lines: Vec<L>,
 }
 
 pub fn draft(n: usize, m: usize, starts: &[u8], lines: &[Line]) -> Draft {
     Draft { n, m, starts: starts.to_vec(), lines: lines.to_vec() }
 }
 
+/// A plan of edition 2.
+pub fn parted(n: usize, m: usize, starts: &[u8], lines: &[PartyLine]) -> Draft<PartyLine> {
+    Draft { n, m, starts: starts.to_vec(), lines: lines.to_vec() }
+}
+
 impl Draft {
+    /// These lines as a party's, in edition 2.
+    pub fn of_party(&self, party: u8) -> Draft<PartyLine> {
+        let lines = self.lines.iter().map(|&(from, code, to)| (from, code, to, party)).collect();
+        Draft { n: self.n, m: self.m, starts: self.starts.clone(), lines }
+    }
+}
+
+impl Draft<PartyLine> {
+    /// W-207, "an edition 1 plan with those lines alone".
+    pub fn alone(&self, party: u8) -> Draft {
+        let lines = self.lines.iter().filter(|line| line.3 == party).map(|line| line.walked()).collect();
+        Draft { n: self.n, m: self.m, starts: self.starts.clone(), lines }
+    }
+}
+
+impl<L: AnyLine> Draft<L> {
     /// Plan bytes: the starts behind the header, the lines behind them, no gaps.
     pub fn bytes(&self) -> Vec<u8> {
         self.laid_out(false, [0; 3])
@@ -26,16 +100,20 @@ impl Draft {
     /// Plan bytes with the lines before the starts or behind them, and gaps of so many bytes before, between and behind the two.
     pub fn laid_out(&self, lines_first: bool, gaps: [usize; 3]) -> Vec<u8> {
         let (p, e) = (self.starts.len(), self.lines.len());
-        let first = HEADER + gaps[0];
-        let (starts_at, lines_at) = if lines_first { (first + LINE * e + gaps[1], first) } else { (first, first + p + gaps[1]) };
-        let total = length(p, e) + gaps.iter().sum::<usize>();
-        let mut bytes = header([1, self.n, self.m, p, e, starts_at, lines_at, total]);
+        let (first, all_lines) = (HEADER + gaps[0], line(L::EDITION) * e);
+        let (starts_at, lines_at) = if lines_first { (first + all_lines + gaps[1], first) } else { (first, first + p + gaps[1]) };
+        let total = length(L::EDITION, p, e) + gaps.iter().sum::<usize>();
+        let mut bytes = header([L::EDITION, self.n, self.m, p, e, starts_at, lines_at, total]);
         bytes.resize(total, 255);
-        bytes[starts_at..][..p].copy_from_slice(&self.starts);
-        for (place, &(from, code, to)) in bytes[lines_at..][..LINE * e].chunks_mut(LINE).zip(&self.lines) {
-            place.copy_from_slice(&[from, code, to]);
-        }
+        self.put_parts(&mut bytes, starts_at, lines_at);
         bytes
+    }
+
+    /// Puts the starts and the lines where they are to begin.
+    pub fn put_parts(&self, bytes: &mut [u8], starts_at: usize, lines_at: usize) {
+        bytes[starts_at..][..self.starts.len()].copy_from_slice(&self.starts);
+        let lines: Vec<u8> = self.lines.iter().flat_map(|line| line.to_bytes()).collect();
+        bytes[lines_at..][..lines.len()].copy_from_slice(&lines);
     }
 }
 

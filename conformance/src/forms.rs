@@ -14,6 +14,8 @@ pub const MAX_STAKES: usize = 64;
 pub const MAX_CODES: usize = 32;
 pub const MAX_LINES: usize = 4096;
 pub const MAX_LEGS: u32 = 1_000_000;
+/// A party is below this (W-207).
+pub const PARTIES: u32 = 8;
 
 /// Further values: of reading (m, p, e), of a verdict, and of a booking.
 pub const COUNTS: usize = 3;
@@ -37,12 +39,25 @@ pub mod plan {
     /// How many numbers there are, and where the parts may begin.
     pub const NUMBERS: usize = 8;
     pub const HEADER: usize = 2 * NUMBERS;
-    /// The bytes of a line: from, code, to.
-    pub const LINE: usize = 3;
+    pub const EDITIONS: [usize; 2] = [1, 2];
+
+    /// The bytes of a line: from, code, to, and in edition 2 the party. Of plan bytes of no edition they are read as in the first.
+    pub const fn line(edition: usize) -> usize {
+        if edition == 2 {
+            4
+        } else {
+            3
+        }
+    }
 
     /// The bytes of a plan without gaps.
-    pub const fn length(p: usize, e: usize) -> usize {
-        HEADER + p + LINE * e
+    pub const fn length(edition: usize, p: usize, e: usize) -> usize {
+        HEADER + p + line(edition) * e
+    }
+
+    /// The bytes of the one form of a plan, by its header.
+    pub fn form_length(bytes: &[u8]) -> usize {
+        length(number(bytes, EDITION), number(bytes, P), number(bytes, E))
     }
 
     pub fn number(bytes: &[u8], place: usize) -> usize {

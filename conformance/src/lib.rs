@@ -1,5 +1,6 @@
 //! A second implementation of the library, written from the documents by other means, and what compares the two.
 
+pub mod alone;
 pub mod batch;
 pub mod calls;
 pub mod cases;

@@ -1,5 +1,5 @@
-//! A session (demand 3): preparing, opening, every leg, the whole walk and ending, held to the plain walk of document 01. Each call is run
-//! on what the one before left, and all that it must leave is foretold.
+//! A session (demand 3): preparing for a party, opening, every leg, the whole walk and ending, held to the plain walk of document 01 on the
+//! party's lines. Each call is run on what the one before left, and all that it must leave is foretold.
 
 use crate::calls::Calls;
 use crate::cases::{Call, Case, Outcome};
@@ -7,7 +7,7 @@ use crate::classes::count_class;
 use crate::forms::{evidence, letters, record, LENGTH, MAX_LEGS, NOTHING, POSITION, REFUSED};
 use crate::lent::hex;
 use crate::reference::lookahead::{least, look_ahead};
-use crate::reference::plan::{read, Read};
+use crate::reference::plan::read_for;
 use crate::reference::table::table_of;
 use crate::reference::walk::{plain_walk, possible, Reply};
 use crate::reference::{size, to_number};
@@ -15,6 +15,7 @@ use crate::reference::{size, to_number};
 #[derive(Clone)]
 pub struct Session {
     pub plan: Vec<u8>,
+    pub party: u32,
     /// The codes that are offered.
     pub legs: Vec<u32>,
     /// How much longer than needed each buffer is.
@@ -23,7 +24,7 @@ pub struct Session {
 
 /// Runs a call that must give this reply, and must leave what it was lent but for what `write` puts there. Answers what is left.
 fn expect(subject: &dyn Calls, case: Case, reply: u32, write: impl FnOnce(&mut Call)) -> Result<Call, String> {
-    let Case::Call(call) = case else { unreachable!("a call") };
+    let call = case.call();
     let mut expected = Outcome { reply, left: call.lent() };
     write(&mut expected.left);
     expected.agree(&call.on(subject), subject).map_err(|found| format!("{}\n  {found}", call.show()))?;
@@ -40,17 +41,18 @@ fn number(reply: Reply) -> u32 {
 
 impl Session {
     pub fn show(&self) -> String {
-        let (plan, legs) = (hex(&self.plan), hex(&self.legs));
-        format!("session (prepare, open, feed each leg, walk, finish): plan {plan}, legs {legs}, buffers {} longer than needed", self.extra)
+        let Session { plan, party, legs, extra } = self;
+        let (plan, legs) = (hex(plan), hex(legs));
+        format!("session (prepare, open, feed each leg, walk, finish): plan {plan}, party {party}, legs {legs}, buffers {extra} longer than needed")
     }
 
     /// Answers the classes that were met, or where the subject disagrees. A plan that is refused gives an empty session.
     pub fn compare(&self, subject: &dyn Calls) -> Result<Vec<String>, String> {
-        let Ok(Read { plan, .. }) = read(&self.plan) else { return Ok(vec![]) };
+        let Ok(plan) = read_for(&self.plan, self.party) else { return Ok(vec![]) };
         let Some(k) = look_ahead(&plan) else { return Ok(vec![]) };
         let room = |needed: usize| needed + self.extra;
         let made = table_of(&plan, k);
-        let case = Case::prepare(&self.plan, room(made.len()), letters(plan.n), evidence::NUMBERS);
+        let case = Case::prepare(&self.plan, self.party, room(made.len()), letters(plan.n), evidence::NUMBERS);
         let left = expect(subject, case, k as u32, |left| left.write("table", &made))?;
         let table: &[u64] = left.slice("table");
 

@@ -1,18 +1,20 @@
 //! A smaller case that still fails, by simple means: fewer lines, starts, stakes and codes, fewer legs and letters, fewer bits in sets
 //! and tables.
 
+use crate::alone::Alone;
 use crate::calls::Calls;
 use crate::cases::{Call, Case};
-use crate::families::{draft, Draft, Line};
-use crate::forms::plan::{number, set_number, E, EDITION, HEADER, LINE, LINES_AT, M, N, P, STARTS_AT, TOTAL};
+use crate::families::{AnyLine, Draft, Line, PartyLine};
+use crate::forms::plan::{line, number, set_number, E, EDITION, HEADER, LINES_AT, M, N, P, STARTS_AT, TOTAL};
 use crate::forms::table::K;
 use crate::forms::MAX_STAKES;
 use crate::lent::{Element, Given};
 use crate::reference::page::page;
-use crate::reference::plan::read;
+use crate::reference::plan::read_for;
 use crate::session::Session;
 use crate::together::Together;
 use crate::waiting::Waiting;
+use std::collections::BTreeSet;
 use std::time::{Duration, Instant};
 
 /// The list with one piece left out, for pieces from all of it down to one member.
@@ -37,29 +39,64 @@ fn smaller_plans(bytes: &[u8]) -> Vec<Vec<u8>> {
     }
     let [edition, n, m, p, e, starts_at, lines_at, total] =
         [EDITION, N, M, P, E, STARTS_AT, LINES_AT, TOTAL].map(|place| number(bytes, place));
-    if total != bytes.len() || starts_at + p > total || lines_at + LINE * e > total {
+    let (starts_end, lines_end) = (starts_at + p, lines_at + line(edition) * e);
+    if total != bytes.len() || starts_end > total || lines_end > total {
         return Vec::new();
     }
-    let starts = bytes[starts_at..starts_at + p].to_vec();
-    let lines: Vec<Line> = bytes[lines_at..lines_at + LINE * e].chunks(LINE).map(|line| (line[0], line[1], line[2])).collect();
-    let mut plans: Vec<Draft> = without_a_piece(&lines).iter().map(|lines| draft(n, m, &starts, lines)).collect();
-    plans.extend(without_a_piece(&starts).iter().map(|starts| draft(n, m, starts, &lines)));
-    plans.extend([(n.wrapping_sub(1), m), (n, m.wrapping_sub(1)), (n, m)].map(|(n, m)| draft(n, m, &starts, &lines)));
+    let starts = bytes[starts_at..starts_end].to_vec();
+    if edition == PartyLine::EDITION {
+        let lines = bytes[lines_at..lines_end].chunks(line(edition)).map(PartyLine::from_bytes).collect();
+        let plan = Draft { n, m, starts, lines };
+        let mut plans = smaller_drafts(&plan);
+        plans.extend(without_parties(&plan));
+        return laid_out_as(bytes, edition, &plans);
+    }
+    let lines = bytes[lines_at..lines_end].chunks(line(edition)).map(Line::from_bytes).collect();
+    laid_out_as(bytes, edition, &smaller_drafts(&Draft { n, m, starts, lines }))
+}
+
+/// The plan with fewer lines, starts, stakes or codes; and itself, for another layout.
+fn smaller_drafts<L: AnyLine>(plan: &Draft<L>) -> Vec<Draft<L>> {
+    let Draft { n, m, starts, lines } = plan;
+    let mut plans: Vec<Draft<L>> = without_a_piece(lines).into_iter().map(|lines| Draft { lines, ..plan.clone() }).collect();
+    plans.extend(without_a_piece(starts).into_iter().map(|starts| Draft { starts, ..plan.clone() }));
+    plans.extend([(n.wrapping_sub(1), *m), (*n, m.wrapping_sub(1)), (*n, *m)].map(|(n, m)| Draft { n, m, ..plan.clone() }));
     // a stake out of the way: the last one takes the number of another
-    for stake in 0..n.min(MAX_STAKES) as u8 {
-        if !starts.contains(&stake) && !lines.iter().any(|line| line.0 == stake || line.2 == stake) {
+    for stake in 0..(*n).min(MAX_STAKES) as u8 {
+        if !starts.contains(&stake) && !lines.iter().any(|line| line.walked().0 == stake || line.walked().2 == stake) {
             let name = |s: u8| if s as usize == n - 1 { stake } else { s };
-            let lines = lines.iter().map(|&(from, code, to)| (name(from), code, name(to))).collect();
-            plans.push(Draft { n: n - 1, m, starts: starts.iter().map(|&s| name(s)).collect(), lines });
+            let renamed = |line: &L| {
+                let (from, code, to) = line.walked();
+                line.with((name(from), code, name(to)))
+            };
+            let lines = lines.iter().map(renamed).collect();
+            plans.push(Draft { n: n - 1, m: *m, starts: starts.iter().map(|&s| name(s)).collect(), lines });
         }
     }
-    let (starts_end, lines_end) = (starts_at + p, lines_at + LINE * e);
+    plans
+}
+
+/// The plan without one party's lines, and with them as party 0's.
+fn without_parties(plan: &Draft<PartyLine>) -> Vec<Draft<PartyLine>> {
+    let parties: BTreeSet<u8> = plan.lines.iter().map(|line| line.3).collect();
+    let each = parties.into_iter().flat_map(|party| {
+        let left = plan.lines.iter().filter(|line| line.3 != party).copied().collect();
+        let as_first = plan.lines.iter().map(|&line| if line.3 == party { (line.0, line.1, line.2, 0) } else { line }).collect();
+        [left, as_first]
+    });
+    each.map(|lines| Draft { lines, ..plan.clone() }).collect()
+}
+
+/// The bytes of drafts of a plan that are smaller than its own, of the same edition.
+fn laid_out_as<L: AnyLine>(bytes: &[u8], edition: usize, plans: &[Draft<L>]) -> Vec<Vec<u8>> {
+    let [p, e, starts_at, lines_at, total] = [P, E, STARTS_AT, LINES_AT, TOTAL].map(|place| number(bytes, place));
+    let (starts_end, lines_end) = (starts_at + p, lines_at + line(edition) * e);
     let [before, behind] = [starts_at.min(lines_at) > HEADER, starts_end.max(lines_end) < total].map(usize::from);
     let between = (starts_at.max(lines_at) > starts_end.min(lines_end)) as usize;
     let lines_first = lines_at < starts_at;
     let layouts = [(false, [0; 3]), (lines_first, [0; 3]), (lines_first, [0, 0, behind]), (lines_first, [before, between, behind])];
     let mut smaller = Vec::new();
-    for plan in &plans {
+    for plan in plans {
         for (i, &(lines_first, gaps)) in layouts.iter().enumerate() {
             let mut other = plan.laid_out(lines_first, gaps);
             set_number(&mut other, EDITION, edition);
@@ -76,9 +113,9 @@ fn forks(plan: &[u8]) -> usize {
     number(plan, N) * number(plan, M)
 }
 
-/// The bytes of a plan's page, none if it has no page.
-fn page_length(plan: &[u8]) -> usize {
-    read(plan).map_or(0, |read| page(&read.plan).len())
+/// The bytes of the page of a plan for a party, none if it has no page.
+fn page_length(plan: &[u8], party: u32) -> usize {
+    read_for(plan, party).map_or(0, |plan| page(&plan).len())
 }
 
 /// Smaller sets: the empty one, and all but the lowest stake.
@@ -115,6 +152,7 @@ fn smaller_given(name: &str, given: &Given) -> Vec<Given> {
     }
     match (name, given) {
         ("set", &Given::Number(set)) => smaller_sets(set).into_iter().map(Given::Number).collect(),
+        ("party", &Given::Number(party)) => smaller_numbers(party as usize).map(|less| Given::Number(less as u64)).collect(),
         (_, &Given::Room(length)) => smaller_numbers(length).map(Given::Room).collect(),
         ("plan", Given::U8(bytes)) => all(smaller_plans(bytes)),
         ("rec", _) => vec![],
@@ -132,11 +170,11 @@ fn with_smaller(call: &Call, place: usize, given: Given) -> Vec<Case> {
     let mut cases = vec![Case::Call(other.clone())];
     let parameters = call.what.parameters;
     if let (Given::U8(before), Given::U8(now)) = (&call.given[place], &other.given[place]) {
-        let fewer = |size: fn(&[u8]) -> usize| size(before).saturating_sub(size(now));
+        let fewer = |size: &dyn Fn(&[u8]) -> usize| size(before).saturating_sub(size(now));
         let fewer = match (call.what.name, parameters[place].name) {
-            ("page", _) => [fewer(page_length), 0],
-            (_, "plan") => [fewer(<[u8]>::len), fewer(forks)],
-            _ => [fewer(<[u8]>::len), 0],
+            ("page", _) => [fewer(&|plan| page_length(plan, call.party())), 0],
+            (_, "plan") => [fewer(&<[u8]>::len), fewer(&forks)],
+            _ => [fewer(&<[u8]>::len), 0],
         };
         for fewer in fewer.into_iter().filter(|&fewer| fewer > 0) {
             let mut less = other.clone();
@@ -174,7 +212,11 @@ fn smaller(case: &Case) -> Box<dyn Iterator<Item = Case> + '_> {
             let plans = smaller_plans(&waiting.plan).into_iter().map(|plan| Waiting { plan, ..waiting.clone() });
             Box::new(walks.chain(plans).map(Case::Waiting))
         }
-        Case::Together(together) => Box::new(smaller_plans(&together.plan).into_iter().map(|plan| Case::Together(Together { plan }))),
+        Case::Together(together) => {
+            let plans = smaller_plans(&together.plan).into_iter();
+            Box::new(plans.map(|plan| Case::Together(Together { plan, ..together.clone() })))
+        }
+        Case::Alone(alone) => Box::new(smaller_plans(&alone.plan).into_iter().map(|plan| Case::Alone(Alone { plan, ..alone.clone() }))),
     }
 }
 

@@ -8,28 +8,30 @@ use crate::classes::count_class;
 use crate::forms::{evidence, letters, needs, REFUSED, STARTS};
 use crate::lent::{hex, pattern};
 use crate::reference::lookahead::{entry, largest};
-use crate::reference::plan::{read, Plan, Read};
+use crate::reference::plan::{read_for, Plan};
 
 #[derive(Clone)]
 pub struct Together {
     pub plan: Vec<u8>,
+    pub party: u32,
 }
 
 impl Together {
     pub fn show(&self) -> String {
-        format!("together (needs and the count call): plan {}", hex(&self.plan))
+        format!("together (needs and the count call): plan {}, party {}", hex(&self.plan), self.party)
     }
 
-    /// Answers the classes that were met, or what does not fit together. A plan that the reference refuses with 1 to 7 has no numbers.
+    /// Answers the classes that were met, or what does not fit together. A plan that the reference refuses with 1 to 7 or 16 has no
+    /// numbers.
     pub fn compare(&self, subject: &dyn Calls) -> Result<Vec<String>, String> {
-        let Ok(Read { plan, .. }) = read(&self.plan) else { return Ok(vec![]) };
+        let Ok(plan) = read_for(&self.plan, self.party) else { return Ok(vec![]) };
         let mut numbers: Vec<u16> = pattern(needs::length(plan.n, plan.m));
-        let written = subject.needs(&self.plan, &mut numbers);
+        let written = subject.needs(&self.plan, self.party, &mut numbers);
         if written as usize != numbers.len() {
             return Err(format!("needs by {} gave {} for {} numbers", subject.name(), show_reply(written), numbers.len()));
         }
         let mut claim = [0; evidence::NUMBERS];
-        let count = subject.look_ahead(&self.plan, &mut pattern(letters(plan.n)), &mut claim);
+        let count = subject.look_ahead(&self.plan, self.party, &mut pattern(letters(plan.n)), &mut claim);
         let met = match (largest(&numbers), count.checked_sub(REFUSED)) {
             (Some(k), None) if k == count as usize => {
                 let is_none = numbers.iter().all(|&number| number == needs::UNMEASURED);

@@ -11,13 +11,14 @@ use crate::random::walks::further;
 use crate::random::Random;
 use crate::reference::doubt::{in_doubt, Doubt};
 use crate::reference::lookahead::least;
-use crate::reference::plan::{read, Plan, Read};
+use crate::reference::plan::{read_for, Plan};
 use crate::reference::size;
 use crate::reference::table::table_of;
 
 #[derive(Clone)]
 pub struct Waiting {
     pub plan: Vec<u8>,
+    pub party: u32,
     /// What the walks are drawn with.
     pub seed: u64,
     /// By how many legs more than k the long walks go on, where they can be walked.
@@ -62,20 +63,21 @@ fn certain(subject: &dyn Calls, table: &[u64], k: usize, walk: &[u8]) -> Result<
 
 impl Waiting {
     pub fn show(&self) -> String {
-        let Waiting { plan, seed, beyond } = self;
-        format!("waiting (prepare, walks in doubt, long walks of k + {beyond} legs): plan {}, walks drawn with {seed:x}", hex(plan))
+        let Waiting { plan, party, seed, beyond } = self;
+        let plan = hex(plan);
+        format!("waiting (prepare, walks in doubt, long walks of k + {beyond} legs): plan {plan}, party {party}, walks drawn with {seed:x}")
     }
 
     /// Answers the classes that were met, or what does not fit the k or the 15 that the subject gave. A plan that the reference refuses
     /// otherwise gives no walks.
     pub fn compare(&self, subject: &dyn Calls) -> Result<Vec<String>, String> {
-        let Ok(Read { plan, .. }) = read(&self.plan) else { return Ok(vec![]) };
+        let Ok(plan) = read_for(&self.plan, self.party) else { return Ok(vec![]) };
         let mut table = pattern(table::length(plan.n, plan.m));
-        let reply = subject.prepare(&self.plan, &mut table, &mut pattern::<u8>(letters(plan.n)), &mut [0; evidence::NUMBERS]);
+        let reply = subject.prepare(&self.plan, self.party, &mut table, &mut pattern::<u8>(letters(plan.n)), &mut [0; evidence::NUMBERS]);
         let met = match reply.checked_sub(REFUSED) {
             None => self.with_count(subject, &table, &plan, reply as usize),
             Some(15) => self.without_count(subject, &plan),
-            Some(_) => Err("the plan passes 1 to 7, and as much is lent as is needed".to_string()),
+            Some(_) => Err("the plan passes 1 to 7 and 16, and as much is lent as is needed".to_string()),
         };
         let gave = |found| format!("preparing by {} gave {}; {found}", subject.name(), show_reply(reply));
         met.map_err(gave).map(|met| met.iter().map(|class| format!("waiting {class}")).collect())

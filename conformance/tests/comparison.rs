@@ -5,11 +5,11 @@ mod common;
 use conformance::batch::batch;
 use conformance::calls::{Calls, CALLS};
 use conformance::cases::Case;
-use conformance::classes::classes;
+use conformance::classes::{classes, has_classes};
 use conformance::forms::{evidence, letters, REFUSED};
 use conformance::lent::pattern;
 use conformance::random::{claims, Random};
-use conformance::reference::plan::read;
+use conformance::reference::plan::read_for;
 use conformance::shrink::fail;
 use conformance::tally::Tally;
 use std::time::{Duration, Instant};
@@ -22,18 +22,17 @@ fn check(case: &Case, subject: &dyn Calls, tally: &mut Tally, origin: &str) {
     }
 }
 
-/// The evidence that the subject itself gives for a sound plan, claims near to it, and the same under other names of its set.
-fn own_evidence(plan: &[u8], r: &mut Random, subject: &dyn Calls) -> Vec<Case> {
-    let Ok(read) = read(plan) else { return vec![] };
-    let meaning = read.plan;
+/// The evidence that the subject itself gives for a party's sound plan, claims near to it, and the same under other names of its set.
+fn own_evidence(plan: &[u8], party: u32, r: &mut Random, subject: &dyn Calls) -> Vec<Case> {
+    let Ok(meaning) = read_for(plan, party) else { return vec![] };
     let (mut codes, mut claim) = (pattern(letters(meaning.n)), [0; evidence::NUMBERS]);
-    if subject.look_ahead(plan, &mut codes, &mut claim) != REFUSED + 15 {
+    if subject.look_ahead(plan, party, &mut codes, &mut claim) != REFUSED + 15 {
         return vec![];
     }
     codes.truncate((claim[evidence::LEAD_IN] + claim[evidence::LOOP]) as usize);
     let mut claims = claims::near(r, &claim, &codes, meaning.n, meaning.m, 8);
     claims.extend(claims::renamed(r, &meaning, &claim, &codes));
-    claims.iter().map(|(claim, letters)| Case::check(plan, claim, letters)).collect()
+    claims.iter().map(|(claim, letters)| Case::check(plan, party, claim, letters)).collect()
 }
 
 fn run(subject: &dyn Calls, seconds: u64, shift: u64) {
@@ -49,9 +48,9 @@ fn run(subject: &dyn Calls, seconds: u64, shift: u64) {
         }
         let origin = format!("GAWHERINO_SEED={seed} GAWHERINO_CASE={number}");
         let mut r = Random::new(seed, number);
-        let (plan, cases) = batch(&mut r);
+        let (plan, party, cases) = batch(&mut r);
         cases.iter().for_each(|case| check(case, subject, &mut tally, &origin));
-        own_evidence(&plan, &mut r, subject).iter().for_each(|case| check(case, subject, &mut tally, &origin));
+        own_evidence(&plan, party, &mut r, subject).iter().for_each(|case| check(case, subject, &mut tally, &origin));
         if only != u64::MAX {
             return;
         }
@@ -66,7 +65,7 @@ fn run(subject: &dyn Calls, seconds: u64, shift: u64) {
 #[test]
 fn every_call_has_classes() {
     for call in CALLS {
-        assert!(classes().iter().any(|class| class.starts_with(&format!("{} ", call.name))), "{} has no classes", call.name);
+        assert!(has_classes(call.name), "{} has no classes", call.name);
     }
 }
 
@@ -75,20 +74,21 @@ fn plain_rust() {
     run(&conformance::plain::Plain, common::seconds() / 4, 0);
 }
 
-/// Sessions, waiting, sets together and evidence apart, the reference can only agree with itself; sessions hold its record to the plain
-/// walk, waiting its count to the possible stakes, and sets together their numbers to the count.
+/// Sessions, waiting, sets together, parties alone and evidence apart, the reference can only agree with itself; sessions hold its record to
+/// the plain walk, waiting its count to the possible stakes, sets together their numbers to the count, and parties alone their lines to
+/// those of an edition 1 plan.
 #[test]
 fn the_reference_itself() {
     let seed = common::seed();
     let mut tally = Tally::default();
     for number in 0..2000 {
-        for case in batch(&mut Random::new(seed, number)).1 {
-            if matches!(case, Case::Session(_) | Case::Waiting(_) | Case::Together(_)) {
+        for case in batch(&mut Random::new(seed, number)).2 {
+            if !matches!(case, Case::Call(_)) {
                 check(&case, &conformance::reference::calls::Reference, &mut tally, &format!("GAWHERINO_SEED={seed} case {number}"));
             }
         }
     }
-    assert!(tally.cases > 4500, "only {} sessions, waits and sets together", tally.cases);
+    assert!(tally.cases > 8500, "only {} sessions, waits, sets together and parties alone", tally.cases);
 }
 
 /// On two threads at once: "nothing is kept between calls, so that different threads may call at once".

@@ -3,12 +3,12 @@
 mod common;
 
 use common::words;
-use conformance::random::{bytes, claims, plans, Random};
+use conformance::random::{bytes, claims, parties, plans, Random};
 use conformance::reference::claim;
 use conformance::reference::doubt::in_doubt;
 use conformance::reference::lookahead::{entry, largest, least, look_ahead, needs};
 use conformance::reference::page::page;
-use conformance::reference::plan::{one_form, read, Plan};
+use conformance::reference::plan::{one_form, read, read_for, Plan};
 use conformance::reference::record::{feed, Record};
 use conformance::reference::walk::{possible, reach, step_from, verdict, whole_walk};
 use conformance::reference::{members, only, size};
@@ -68,7 +68,8 @@ fn literal_count(plan: &Plan, sets: &[Named]) -> Option<usize> {
     })
 }
 
-fn tiny_plans(how_many: u64) -> impl Iterator<Item = (u64, Random, Plan)> {
+/// Plan bytes of either edition with few stakes and codes, and the party whose plan they were drawn for.
+fn tiny_bytes(how_many: u64) -> impl Iterator<Item = (u64, Random, Vec<u8>, u32)> {
     let seed = common::seed();
     (0..)
         .map(move |number| (number, Random::new(seed ^ 0xDEF, number)))
@@ -77,10 +78,111 @@ fn tiny_plans(how_many: u64) -> impl Iterator<Item = (u64, Random, Plan)> {
             if draft.n > 5 || draft.m.pow((draft.n * (draft.n - 1) / 2) as u32) > 1100 {
                 return None;
             }
-            let plan = read(&bytes::layout(&mut r, &draft)).expect("sound").plan;
-            Some((number, r, plan))
+            let (bytes, party) = bytes::in_an_edition(&mut r, &draft);
+            Some((number, r, bytes, party))
         })
         .take(how_many as usize)
+}
+
+/// The same as that party's plans.
+fn tiny_plans(how_many: u64) -> impl Iterator<Item = (u64, Random, Plan)> {
+    tiny_bytes(how_many).map(|(number, r, bytes, party)| (number, r, read_for(&bytes, party).expect("sound")))
+}
+
+/// The number at a place of the header.
+fn at(bytes: &[u8], place: usize) -> usize {
+    bytes[2 * place] as usize + 256 * bytes[2 * place + 1] as usize
+}
+
+/// Which of the refusals of plan bytes apply, in the order of the checks, each sentence asked by itself. Numbers are looked at where they
+/// stand, and where they don't the sentence is not asked: then an earlier one applies.
+fn literal_refusals(bytes: &[u8], named: Option<u32>) -> Vec<u32> {
+    // 1: fewer than 16 bytes, or total not the byte count
+    if bytes.len() < 16 || at(bytes, 7) != bytes.len() {
+        return vec![1];
+    }
+    let [edition, n, m, p, e, starts_at, lines_at, total] = std::array::from_fn(|place| at(bytes, place));
+    // W-207: "Edition 2 has lines of four bytes", "part lengths follow the edition"
+    let width = 2 + edition;
+    let (starts, lines) = (starts_at..starts_at + p, lines_at..lines_at + width * e);
+    let start = |i: usize| bytes.get(starts_at + i).map(|&stake| stake as usize);
+    let part = |i: usize, byte: usize| bytes.get(lines_at + width * i + byte).map(|&byte| byte as usize);
+    let same = |i: usize, j: usize| (0..width).all(|byte| part(i, byte).is_some() && part(i, byte) == part(j, byte));
+    let pairs = |count: usize| (0..count).flat_map(|i| (0..i).map(move |j| (i, j)));
+    let is_high = |party: usize| party > 7;
+    let applies = [
+        // "neither 1 nor 2"
+        (2, ![1, 2].contains(&edition)),
+        // a count out of range
+        (3, !((1..=64).contains(&n) && (1..=32).contains(&m) && p <= n && e <= 4096)),
+        // a part misplaced
+        (4, [&starts, &lines].iter().any(|part| part.start < 16 || part.end > total)),
+        (4, starts.clone().any(|place| lines.contains(&place))),
+        // a start not below n, or twice
+        (5, (0..p).any(|i| start(i).is_some_and(|stake| stake >= n))),
+        (5, pairs(p).any(|(i, j)| start(i) == start(j) && start(i).is_some())),
+        // a line's number not below its count
+        (6, (0..e).any(|i| [(0, n), (1, m), (2, n)].iter().any(|&(byte, count)| part(i, byte).is_some_and(|number| number >= count)))),
+        // a line twice, "the same only if all four agree"
+        (7, pairs(e).any(|(i, j)| same(i, j))),
+        // "a party above 7 in a line or in the call, or a party other than 0 named for edition 1"
+        (16, edition == 2 && (0..e).any(|i| part(i, 3).is_some_and(is_high))),
+        (16, named.is_some_and(|party| is_high(party as usize) || (edition == 1 && party != 0))),
+    ];
+    applies.into_iter().filter(|refusal| refusal.1).map(|refusal| refusal.0).collect()
+}
+
+/// W-207: "Checks: 16 .. after 7 and before 8". Sound bytes and damaged ones, with any number named.
+#[test]
+fn refusals_sentence_by_sentence() {
+    let mut met = BTreeSet::new();
+    for (number, mut r, bytes, party) in tiny_bytes(6000) {
+        for damages in 0..3 {
+            let mut damaged = bytes.clone();
+            (0..damages).for_each(|_| bytes::damage(&mut r, &mut damaged, 1));
+            if damaged.len() >= 16 && at(&damaged, 4) > 1000 {
+                continue;
+            }
+            let first = |named| literal_refusals(&damaged, named).first().copied();
+            assert_eq!(read(&damaged).err().map(|refusal| refusal.number), first(None), "case {number}: {damaged:?}");
+            for named in [party, parties::other(&mut r)] {
+                let refusal = read_for(&damaged, named).err().map(|refusal| refusal.number);
+                assert_eq!(refusal, first(Some(named)), "case {number}: {named} in {damaged:?}");
+                let all = literal_refusals(&damaged, Some(named));
+                met.extend(all.windows(2).map(|pair| (pair[0], pair[1])));
+                met.extend(all.iter().map(|&refusal| (refusal, refusal)));
+            }
+        }
+    }
+    println!("refusals that applied, each with the next: {met:?}");
+    let pairs = [(2, 3), (3, 4), (4, 5), (4, 16), (5, 6), (5, 7), (5, 16), (6, 7), (6, 16), (7, 16)];
+    assert!((1..=7).chain([16]).all(|refusal| met.contains(&(refusal, refusal))) && pairs.iter().all(|pair| met.contains(pair)));
+}
+
+/// W-207: calls that "name a party .. use that party's lines": a line is the plan's exactly if its bytes with the party's stand among those
+/// of the lines; n, m and the starts are everyone's.
+#[test]
+fn the_lines_of_each_party() {
+    let (mut several, mut none) = (0, 0);
+    for (number, _, bytes, _) in tiny_bytes(3000) {
+        let [edition, n, m, p, e, starts_at, lines_at, _] = std::array::from_fn(|place| at(&bytes, place));
+        let lines: Vec<&[u8]> = bytes[lines_at..].chunks(2 + edition).take(e).collect();
+        for party in 0..if edition == 1 { 1 } else { 8u8 } {
+            let plan = read_for(&bytes, party as u32).expect("sound");
+            assert_eq!((plan.n, plan.m), (n, m), "case {number}");
+            assert!((0..n).all(|s| plan.starts[s] == bytes[starts_at..starts_at + p].contains(&(s as u8))), "case {number}");
+            for (from, code, to) in (0..n).flat_map(|from| (0..m).flat_map(move |code| (0..n).map(move |to| (from, code, to)))) {
+                let with_party = [from as u8, code as u8, to as u8, party];
+                let is_there = lines.contains(&&with_party[..2 + edition]);
+                assert_eq!(plan.lines[code].contains(&(from, to)), is_there, "case {number}: {with_party:?} in {bytes:?}");
+            }
+            let own = plan.lines.iter().map(Vec::len).sum::<usize>();
+            several += (0 < own && own < e) as u32;
+            none += (own == 0 && e > 0) as u32;
+        }
+    }
+    println!("parties with some of the lines: {several}, with none: {none}");
+    assert!(several > 500 && none > 500);
 }
 
 #[test]
@@ -147,7 +249,8 @@ fn the_page_column_by_column() {
         let mut r = Random::new(seed ^ 0x206, number);
         let plan = plans::plan(&mut r);
         let plan = plans::to_page(&mut r, &plan);
-        (number, read(&bytes::layout(&mut r, &plan)).expect("sound").plan)
+        let (bytes, party) = bytes::in_an_edition(&mut r, &plan);
+        (number, read_for(&bytes, party).expect("sound"))
     });
     // "right-aligned": the digit that stands so many columns before the last, or a blank
     let digit = |number: usize, before_last: usize| match number / 10usize.pow(before_last as u32) {
@@ -362,23 +465,31 @@ fn a_step_member_by_member() {
     assert!(nowhere > 500 && joined > 500);
 }
 
-/// Document 02, W-201: what stands where, and that nothing is left out, added or out of order.
+/// Document 02, W-201: what stands where, and that nothing is left out, added or out of order. W-207: the lines "by party last".
 #[test]
 fn the_one_form_byte_by_byte() {
-    for (number, _, plan) in tiny_plans(3000) {
-        let form = one_form(&plan);
-        let [edition, n, m, p, e, starts_at, lines_at, total] =
-            std::array::from_fn(|place| form[2 * place] as usize + 256 * form[2 * place + 1] as usize);
-        assert_eq!((edition, n, m), (1, plan.n, plan.m), "case {number}");
-        assert_eq!([starts_at, lines_at, total, form.len()], [16, 16 + p, 16 + p + 3 * e, 16 + p + 3 * e], "case {number}");
-        let starts: Vec<usize> = form[16..16 + p].iter().map(|&stake| stake as usize).collect();
-        let lines: Vec<[usize; 3]> = form[16 + p..].chunks(3).map(|line| [line[0], line[1], line[2]].map(usize::from)).collect();
-        assert!(starts.windows(2).all(|pair| pair[0] < pair[1]) && lines.windows(2).all(|pair| pair[0] < pair[1]), "case {number}");
-        assert!((0..256).all(|stake| starts.contains(&stake) == (stake < n && plan.starts[stake])), "case {number}");
-        assert_eq!(e, plan.lines.iter().map(Vec::len).sum::<usize>(), "case {number}");
-        for (code, of_code) in plan.lines.iter().enumerate() {
-            assert!(of_code.iter().all(|&(from, to)| lines.contains(&[from, code, to])), "case {number}");
-        }
+    for (number, _, bytes, _) in tiny_bytes(3000) {
+        let form = one_form(&read(&bytes).expect("sound"));
+        // edition, n, m, p and e are the plan's
+        assert_eq!(form[..10], bytes[..10], "case {number}");
+        let [edition, _, _, p, e, starts_at, lines_at, total] = std::array::from_fn(|place| at(&form, place));
+        let (width, length) = (2 + edition, 16 + p + (2 + edition) * e);
+        assert_eq!([starts_at, lines_at, total, form.len()], [16, 16 + p, length, length], "case {number}");
+        // as many as there were, and each of them: all, since none stands twice
+        let parts = |bytes: &[u8]| -> (Vec<u8>, Vec<Vec<u8>>) {
+            let lines = bytes[at(bytes, 6)..].chunks(width).take(e).map(<[u8]>::to_vec).collect();
+            (bytes[at(bytes, 5)..][..p].to_vec(), lines)
+        };
+        let ((starts, lines), (drawn_starts, drawn_lines)) = (parts(&form), parts(&bytes));
+        assert!(starts.iter().all(|start| drawn_starts.contains(start)), "case {number}");
+        assert!(lines.iter().all(|line| drawn_lines.contains(line)), "case {number}");
+        assert!(starts.windows(2).all(|pair| pair[0] < pair[1]), "case {number}");
+        // from, then code, then to, then the party: where two lines first differ, the later one has more
+        let ascend = |pair: &[Vec<u8>]| {
+            let place = (0..width).find(|&byte| pair[0][byte] != pair[1][byte]);
+            place.is_some_and(|byte| pair[0][byte] < pair[1][byte])
+        };
+        assert!(lines.windows(2).all(ascend), "case {number}");
     }
 }
 

@@ -3,52 +3,96 @@
 
 mod common;
 
-use conformance::calls::{Calls, CALLS};
+use conformance::alone::Alone;
+use conformance::calls::{Calls, Description, CALLS};
 use conformance::cases::Case;
-use conformance::families::{all_pairs, draft, odometer, odometer_from, theorem_5, unary_chain, Draft, Line};
-use conformance::forms::plan::header;
+use conformance::families::{all_pairs, draft, odometer, odometer_from, parted, theorem_5, unary_chain, AnyLine, Draft, Line, PartyLine};
+use conformance::forms::plan::{header, set_number, EDITION};
 use conformance::forms::*;
 use conformance::lent::{pattern, Kind, Parameter};
-use conformance::random::{plans, Random};
+use conformance::random::{parties, plans, Random};
 use conformance::reference::doubt::in_doubt;
-use conformance::reference::plan::read;
+use conformance::reference::plan::{read, read_for};
 use conformance::session::Session;
 use conformance::shrink::fail;
 use conformance::together::Together;
 use conformance::waiting::Waiting;
 
-/// A prepared plan, or the refusal.
+/// A prepared plan of edition 1, or the refusal.
 fn prepared(calls: &dyn Calls, plan: &Draft) -> Result<(u32, Vec<u64>), u32> {
+    prepared_for(calls, plan, 0)
+}
+
+/// A plan of either edition, prepared for a party.
+fn prepared_for<L: AnyLine>(calls: &dyn Calls, plan: &Draft<L>, party: u32) -> Result<(u32, Vec<u64>), u32> {
     let (mut table, mut letters) = (vec![0; table::length(plan.n, plan.m)], vec![0; letters(plan.n)]);
-    let reply = calls.prepare(&plan.bytes(), &mut table, &mut letters, &mut [0; evidence::NUMBERS]);
+    let reply = calls.prepare(&plan.bytes(), party, &mut table, &mut letters, &mut [0; evidence::NUMBERS]);
     if reply >= REFUSED {
         return Err(reply - REFUSED);
     }
     Ok((reply, table))
 }
 
-/// k or the refusal, by all three calls that count, and by reading; under 15 the evidence is checked. The k is the least by walks too, and
-/// the numbers of the sets say the same.
+/// k or the refusal for a plan of edition 1.
 fn counted(calls: &dyn Calls, plan: &Draft, expected: Result<u32, u32>, name: &str) {
+    counted_for(calls, plan, 0, expected, name);
+}
+
+/// k or the refusal for a party, by all three calls that count, and by reading; under 15 the evidence is checked. The k is the least by
+/// walks too, the numbers of the sets say the same, and so does a plan of the party's lines alone.
+fn counted_for<L: AnyLine>(calls: &dyn Calls, plan: &Draft<L>, party: u32, expected: Result<u32, u32>, name: &str) {
     let bytes = plan.bytes();
     let (n, m) = (plan.n, plan.m);
     for case in [
-        Case::prepare(&bytes, table::length(n, m) + 1, letters(n) + 1, evidence::NUMBERS + 1),
-        Case::look_ahead(&bytes, letters(n), evidence::NUMBERS),
+        Case::prepare(&bytes, party, table::length(n, m) + 1, letters(n) + 1, evidence::NUMBERS + 1),
+        Case::look_ahead(&bytes, party, letters(n), evidence::NUMBERS),
         Case::count(&bytes),
-        Case::Waiting(Waiting { plan: bytes.clone(), seed: common::seed(), beyond: 3 }),
-        Case::needs(&bytes, needs::length(n, m) + 1),
-        Case::page(&bytes, page::most(n, m) + 1, LENGTH + 1),
-        Case::Together(Together { plan: bytes.clone() }),
+        Case::Waiting(Waiting { plan: bytes.clone(), party, seed: common::seed(), beyond: 3 }),
+        Case::needs(&bytes, party, needs::length(n, m) + 1),
+        Case::page(&bytes, party, page::most(n, m) + 1, LENGTH + 1),
+        Case::Together(Together { plan: bytes.clone(), party }),
+        Case::Alone(Alone { plan: bytes.clone(), party, seed: common::seed() }),
     ] {
         case.compare(calls).unwrap_or_else(|message| fail(&case, calls, message, name));
     }
-    let number = expected.unwrap_or_else(|refusal| REFUSED + refusal);
-    assert_eq!(calls.count(&bytes), number, "{name} by the drawing entry of {}", calls.name());
-    assert_eq!(prepared(calls, plan).map(|(k, _)| k), expected, "{name} by preparing of {}", calls.name());
+    if party == 0 {
+        let number = expected.unwrap_or_else(|refusal| REFUSED + refusal);
+        assert_eq!(calls.count(&bytes), number, "{name} by the drawing entry of {}", calls.name());
+    }
+    assert_eq!(prepared_for(calls, plan, party).map(|(k, _)| k), expected, "{name} by preparing of {}", calls.name());
     let mut counts = [0; COUNTS];
     assert_eq!(calls.read(&bytes, &mut counts), n as u32, "{name}");
     assert_eq!(counts, [m as u32, plan.starts.len() as u32, plan.lines.len() as u32], "{name}");
+}
+
+/// What each call on plan bytes replies for a party, with room for any plan or with none; each is compared with the reference too.
+fn replies(calls: &dyn Calls, plan: &[u8], party: u32, is_lent: bool, name: &str) -> Vec<(&'static Description, u32)> {
+    let (n, m) = (MAX_STAKES, MAX_CODES);
+    let room = |most: usize| if is_lent { most } else { 0 };
+    let cases = [
+        Case::read(plan, room(COUNTS)),
+        Case::prepare(plan, party, room(table::length(n, m)), room(letters(n)), room(evidence::NUMBERS)),
+        Case::look_ahead(plan, party, room(letters(n)), room(evidence::NUMBERS)),
+        Case::count(plan),
+        Case::check(plan, party, [STARTS, 0, 0, 1, 0, 1].as_slice(), [0u8].as_slice()),
+        Case::write(plan, room(plan::length(2, n, MAX_LINES))),
+        Case::needs(plan, party, room(needs::length(n, m))),
+        Case::page(plan, party, room(page::most(n, m)), room(LENGTH)),
+    ];
+    let run = |case: Case| {
+        case.compare(calls).unwrap_or_else(|message| fail(&case, calls, message, name));
+        (case.call().what, case.call().on(calls).reply)
+    };
+    cases.map(run).into()
+}
+
+/// Every call on plan bytes refuses them with this number, whatever is lent.
+fn refused(calls: &dyn Calls, plan: &[u8], party: u32, number: u32, name: &str) {
+    for is_lent in [true, false] {
+        for (call, reply) in replies(calls, plan, party, is_lent, name) {
+            assert_eq!(reply, REFUSED + number, "{name}: {} for party {party} by {}", call.name, calls.name());
+        }
+    }
 }
 
 fn set(stakes: &[u32]) -> u64 {
@@ -173,7 +217,7 @@ fn no_leg_held_for_nothing() {
     }
     // and the reference finds one for each number of legs below k, or for every number under 15
     for (name, plan, expected) in &listed {
-        let plan = read(&plan.bytes()).expect("sound").plan;
+        let plan = read_for(&plan.bytes(), 0).expect("sound");
         for legs in 0..20 {
             assert_eq!(in_doubt(&plan, legs, &mut |_| 0).is_some(), expected.map_or(true, |k| legs < k as usize), "{name}, {legs} legs");
         }
@@ -201,10 +245,11 @@ fn plan_a_as_the_document_writes_it() {
     }
 }
 
-/// "Who can cause which refusal", as document 01 lists them: author 1, caller 2, logger 3; every other number is nobody's.
+/// "Who can cause which refusal", as document 01 lists them: author 1, caller 2, logger 3; every other number is nobody's. W-207: 16 is the
+/// author's, as 7 is.
 #[test]
 fn groups_of_refusals() {
-    let listed = [0, 1, 1, 1, 1, 1, 1, 1, 2, 2, 2, 3, 3, 3, 2, 1];
+    let listed = [0, 1, 1, 1, 1, 1, 1, 1, 2, 2, 2, 3, 3, 3, 2, 1, 1];
     let large = [1 << 24, (1 << 24) + 1, (1 << 31) + 8, u32::MAX - 65_535, u32::MAX - 1, u32::MAX];
     for calls in common::everyone() {
         for refusal in (0..=70_000).chain(large) {
@@ -243,7 +288,7 @@ fn numbers_of_the_header() {
         }
     }
     refusals.sort();
-    assert_eq!(refusals, (1..=15).collect::<Vec<u32>>());
+    assert_eq!(refusals, (1..=16).collect::<Vec<u32>>());
     let numbers: std::collections::BTreeMap<String, u32> = header.lines().filter_map(defined).collect();
     let k = max_look_ahead(MAX_STAKES);
     let sizes = [
@@ -256,7 +301,8 @@ fn numbers_of_the_header() {
         ("MAX_RECORD", record::length(k)),
         ("MAX_LETTERS", letters(MAX_STAKES)),
         ("MAX_SETS", k),
-        ("MAX_WRITTEN", plan::length(MAX_STAKES, MAX_LINES)),
+        ("MAX_WRITTEN", plan::length(2, MAX_STAKES, MAX_LINES)),
+        ("PARTIES", PARTIES as usize),
         ("MAX_NEEDS", needs::length(MAX_STAKES, MAX_CODES)),
         ("ENDLESS", needs::ENDLESS as usize),
         ("UNMEASURED", needs::UNMEASURED as usize),
@@ -373,7 +419,7 @@ fn steps_along_a_whole_walk() {
     for calls in common::everyone() {
         let (mut to_the_end, mut shorter, mut fewer) = (0, 0, 0);
         for (name, plan, _) in listed().into_iter().filter(|(_, plan, _)| !plan.starts.is_empty()) {
-            let table = conformance::reference::table::table_of(&read(&plan.bytes()).expect("sound").plan, 0);
+            let table = conformance::reference::table::table_of(&read_for(&plan.bytes(), 0).expect("sound"), 0);
             for word in (0..=5).flat_map(|length| common::words(plan.m, length)) {
                 let mut sets = vec![table[table::STARTS]];
                 for &code in &word {
@@ -583,19 +629,7 @@ fn sizes_that_are_only_run() {
         let mut more = across.clone();
         more.push((63, 0, 63));
         let many = draft(64, 4, &[7], &more).bytes();
-        for case in [
-            Case::read(&many, COUNTS),
-            Case::prepare(&many, table::length(64, 4), letters(64), evidence::NUMBERS),
-            Case::look_ahead(&many, letters(64), evidence::NUMBERS),
-            Case::count(&many),
-            Case::check(&many, [STARTS, 0, 0, 1, 0, 1].as_slice(), [0u8].as_slice()),
-            Case::write(&many, plan::length(1, 4097)),
-            Case::needs(&many, needs::length(64, 4)),
-            Case::page(&many, page::most(64, 4), LENGTH),
-        ] {
-            case.compare(calls).unwrap_or_else(|message| fail(&case, calls, message, "e 4,097"));
-        }
-        assert_eq!(calls.count(&many), REFUSED + 3, "e 4,097");
+        refused(calls, &many, 0, 3, "e 4,097");
         // 0 starts
         let none = draft(3, 2, &[], &[(0, 0, 1), (1, 1, 2)]);
         counted(calls, &none, Ok(0), "0 starts");
@@ -610,9 +644,14 @@ fn sizes_that_are_only_run() {
     }
 }
 
-/// What the check says of a claim.
+/// What the check says of a claim on a plan of edition 1.
 fn said_yes(calls: &dyn Calls, plan: &Draft, claim: [u32; evidence::NUMBERS], letters: &[u8]) -> bool {
-    let reply = calls.check(&plan.bytes(), &claim, letters);
+    said_yes_for(calls, plan, 0, claim, letters)
+}
+
+/// What the check says of a claim for a party.
+fn said_yes_for<L: AnyLine>(calls: &dyn Calls, plan: &Draft<L>, party: u32, claim: [u32; evidence::NUMBERS], letters: &[u8]) -> bool {
+    let reply = calls.check(&plan.bytes(), party, &claim, letters);
     assert!(reply <= 1, "{reply} by {}", calls.name());
     reply == 1
 }
@@ -807,7 +846,7 @@ fn written(calls: &dyn Calls, plan: &[u8]) -> Vec<u8> {
 }
 
 /// The plan in every layout, its starts and lines as listed, backwards and in any order.
-fn drawn_otherwise(plan: &Draft) -> Vec<Vec<u8>> {
+fn drawn_otherwise<L: AnyLine>(plan: &Draft<L>) -> Vec<Vec<u8>> {
     let mut r = Random::new(common::seed(), 201);
     let (mut backwards, mut shuffled) = (plan.clone(), plan.clone());
     backwards.starts.reverse();
@@ -823,11 +862,12 @@ fn drawn_otherwise(plan: &Draft) -> Vec<Vec<u8>> {
 }
 
 /// Document 02, W-201: "one form: starts at 16 ascending, lines directly after them ascending by from, code and to, no gaps".
-/// `form` is a plan whose starts and lines are listed ascending; its bytes are what every other drawing of it must be written as.
-fn filed(calls: &dyn Calls, form: &Draft, name: &str) {
+/// `form` is a plan whose starts and lines are listed ascending; its bytes are what every other drawing of it must be written as. W-207: it
+/// "orders by party last".
+fn filed<L: AnyLine>(calls: &dyn Calls, form: &Draft<L>, name: &str) {
     assert!(form.starts.windows(2).all(|pair| pair[0] < pair[1]) && form.lines.windows(2).all(|pair| pair[0] < pair[1]), "{name}");
     let bytes = form.bytes();
-    let needed = 16 + form.starts.len() + 3 * form.lines.len();
+    let needed = 16 + form.starts.len() + [3, 4][L::EDITION - 1] * form.lines.len();
     assert_eq!(bytes.len(), needed, "{name}");
     for plan in drawn_otherwise(form) {
         assert_eq!(written(calls, &plan), bytes, "{name} by {}", calls.name());
@@ -884,7 +924,7 @@ fn one_form_to_file() {
     }
 }
 
-/// Plan A spoilt in each way that 1 to 7 name, and the number.
+/// Plan A spoilt in each way that 1 to 7 name, and the number; and of edition 2 with a party that is none.
 fn refused_plans() -> Vec<(u32, Vec<u8>)> {
     let a = plan_a().bytes();
     let changed = |place: usize, byte: u8| {
@@ -895,7 +935,11 @@ fn refused_plans() -> Vec<(u32, Vec<u8>)> {
     vec![
         (1, a[..15].to_vec()),
         (1, a[..25].to_vec()),
-        (2, changed(0, 2)),
+        // W-207: "Refusal 2 now means neither 1 nor 2"; of edition 2 its lines would be four bytes each, and three of them go past the total
+        (2, changed(0, 0)),
+        (2, changed(0, 3)),
+        (2, changed(1, 1)),
+        (4, changed(0, 2)),
         (3, changed(2, 65)),
         (3, changed(4, 33)),
         (3, changed(6, 4)),
@@ -908,10 +952,12 @@ fn refused_plans() -> Vec<(u32, Vec<u8>)> {
         (6, changed(20, 3)),
         (6, changed(21, 1)),
         (7, changed(25, 1)),
+        (16, parted(3, 1, &[0], &[(0, 0, 1, 0), (1, 0, 1, 8), (1, 0, 2, 0)]).bytes()),
     ]
 }
 
-/// W-201: "a plan that passes 1 to 7"; one that does not is refused with the lowest of them that applies, also where the buffer is short.
+/// W-201: "a plan that passes 1 to 7"; one that does not, or not 16, is refused with the first of them that applies, also where the buffer
+/// is short.
 #[test]
 fn plans_that_are_not_written() {
     let refused = refused_plans();
@@ -926,7 +972,31 @@ fn plans_that_are_not_written() {
     }
 }
 
-/// W-201: "Equal n, m, starts and lines give equal bytes, and different ones give different bytes."
+/// The plan that bytes mean, so that their order does not matter: the edition, n, m, the starts and the lines' bytes.
+type Meaning = (usize, usize, usize, Vec<u8>, Vec<Vec<u8>>);
+
+/// Writes a plan in several layouts: the form is written as itself, means what it came from, and is that of no plan that means another.
+fn filed_as<L: AnyLine>(calls: &dyn Calls, plan: &Draft<L>, forms: &mut std::collections::BTreeMap<Vec<u8>, Meaning>) {
+    let (mut starts, mut lines) = (plan.starts.clone(), plan.lines.clone());
+    starts.sort();
+    lines.sort();
+    let meaning = (L::EDITION, plan.n, plan.m, starts, lines.iter().map(|line| line.to_bytes()).collect());
+    for bytes in [plan.bytes(), plan.laid_out(true, [1, 2, 3])] {
+        let form = written(calls, &bytes);
+        assert_eq!(written(calls, &form), form, "written twice by {}", calls.name());
+        let mut again = read(&form).expect("the form passes 1 to 7");
+        let mut came_from = read(&bytes).expect("sound");
+        again.lines.sort();
+        came_from.lines.sort();
+        assert_eq!((again.edition, again.n, again.m), (came_from.edition, came_from.n, came_from.m));
+        assert_eq!((again.starts, again.lines), (came_from.starts, came_from.lines));
+        let before = forms.entry(form).or_insert_with(|| meaning.clone());
+        assert_eq!(*before, meaning, "different plans give equal bytes by {}", calls.name());
+    }
+}
+
+/// W-201: "Equal n, m, starts and lines give equal bytes, and different ones give different bytes." W-207: "equal bytes are claimed within
+/// one edition"; in edition 2 a line has its party.
 #[test]
 fn equal_and_different_plans() {
     let plan = draft(5, 3, &[1, 3], &[(0, 1, 2), (2, 0, 4), (4, 2, 0)]);
@@ -958,29 +1028,15 @@ fn equal_and_different_plans() {
         }
         let mut forms = std::collections::BTreeMap::new();
         for plan in drawn {
-            // the plan that the bytes mean, so that its order does not matter
-            let (mut starts, mut lines) = (plan.starts.clone(), plan.lines.clone());
-            starts.sort();
-            lines.sort();
-            let meaning = (plan.n, plan.m, starts, lines);
-            for bytes in [plan.bytes(), plan.laid_out(true, [1, 2, 3])] {
-                let form = written(calls, &bytes);
-                assert_eq!(written(calls, &form), form, "written twice by {}", calls.name());
-                let again = read(&form).expect("the form passes 1 to 7").plan;
-                let came_from = read(&bytes).expect("sound").plan;
-                assert_eq!((again.n, again.m, &again.starts), (came_from.n, came_from.m, &came_from.starts));
-                for (mut some, mut others) in again.lines.into_iter().zip(came_from.lines) {
-                    some.sort();
-                    others.sort();
-                    assert_eq!(some, others);
-                }
-                let before = forms.entry(form).or_insert_with(|| meaning.clone());
-                assert_eq!(*before, meaning, "different plans give equal bytes by {}", calls.name());
-            }
+            filed_as(calls, &plan, &mut forms);
+            // W-207: of edition 2 as one party's, as another's, and with lines of others
+            filed_as(calls, &plan.of_party(0), &mut forms);
+            filed_as(calls, &plan.of_party(7), &mut forms);
+            filed_as(calls, &parties::among_others(&mut r, &plan).0, &mut forms);
         }
         let meanings: std::collections::BTreeSet<_> = forms.values().collect();
         assert_eq!(meanings.len(), forms.len(), "equal plans give different bytes by {}", calls.name());
-        assert!(forms.len() > 300);
+        assert!(forms.len() > 1200, "{}", forms.len());
     }
 }
 
@@ -992,7 +1048,7 @@ const OUT: u16 = 65_534;
 fn numbers_of(calls: &dyn Calls, plan: &Draft) -> Vec<u16> {
     let length = plan.n * plan.m + 1;
     let mut numbers: Vec<u16> = pattern(length + 3);
-    assert_eq!(calls.needs(&plan.bytes(), &mut numbers), length as u32, "by {}", calls.name());
+    assert_eq!(calls.needs(&plan.bytes(), 0, &mut numbers), length as u32, "by {}", calls.name());
     assert_eq!(numbers[length..], pattern::<u16>(length + 3)[length..], "the rest by {}", calls.name());
     numbers.truncate(length);
     numbers
@@ -1007,11 +1063,11 @@ fn needed(calls: &dyn Calls, plan: &Draft, expected: &[u16], name: &str) {
     let drawn = if length < 100 { drawn_otherwise(plan) } else { vec![plan.laid_out(true, [1, 2, 3])] };
     for bytes in drawn {
         let mut numbers = vec![0; length];
-        assert_eq!(calls.needs(&bytes, &mut numbers), length as u32, "{name} by {}", calls.name());
+        assert_eq!(calls.needs(&bytes, 0, &mut numbers), length as u32, "{name} by {}", calls.name());
         assert_eq!(numbers, expected, "{name} by {}", calls.name());
         for lent in [0, 1, length / 2, length - 1] {
             let mut numbers: Vec<u16> = pattern(lent);
-            assert_eq!(calls.needs(&bytes, &mut numbers), REFUSED + 9, "{name} into {lent} by {}", calls.name());
+            assert_eq!(calls.needs(&bytes, 0, &mut numbers), REFUSED + 9, "{name} into {lent} by {}", calls.name());
             assert_eq!(numbers, pattern::<u16>(lent), "{name} into {lent} by {}", calls.name());
         }
     }
@@ -1195,7 +1251,7 @@ fn needs_of_figure_7_and_of_the_traps() {
     }
 }
 
-/// W-205: "From plan bytes that pass refusals 1 to 7"; the lowest of them that applies comes before 9.
+/// W-205: "From plan bytes that pass refusals 1 to 7"; the first of them and 16 that applies comes before 9.
 #[test]
 fn plans_that_have_no_numbers() {
     let refused = refused_plans();
@@ -1203,17 +1259,22 @@ fn plans_that_have_no_numbers() {
         for (number, plan) in &refused {
             for lent in [0, 1, 3, 4, 100] {
                 let mut numbers: Vec<u16> = pattern(lent);
-                assert_eq!(calls.needs(plan, &mut numbers), REFUSED + number, "{plan:?} into {lent} by {}", calls.name());
+                assert_eq!(calls.needs(plan, 0, &mut numbers), REFUSED + number, "{plan:?} into {lent} by {}", calls.name());
                 assert_eq!(numbers, pattern::<u16>(lent), "{plan:?} by {}", calls.name());
             }
         }
     }
 }
 
-/// A plan's page, or the refusal, with so much lent for the page and for its length; the rest is kept, and a refused call writes nothing.
+/// The page of a plan of edition 1, or the refusal.
 fn paged(calls: &dyn Calls, plan: &[u8], lent: usize, for_length: usize) -> Result<String, u32> {
+    paged_for(calls, plan, 0, lent, for_length)
+}
+
+/// A party's page, or the refusal, with so much lent for the page and for its length; the rest is kept, and a refused call writes nothing.
+fn paged_for(calls: &dyn Calls, plan: &[u8], party: u32, lent: usize, for_length: usize) -> Result<String, u32> {
     let (mut page, mut length): (Vec<u8>, Vec<u64>) = (pattern(lent), pattern(for_length));
-    let reply = calls.page(plan, &mut page, &mut length);
+    let reply = calls.page(plan, party, &mut page, &mut length);
     let (bytes, numbers) = if reply < REFUSED { (length[0] as usize, 1) } else { (0, 0) };
     assert_eq!(page[bytes..], pattern::<u8>(lent)[bytes..], "the rest by {}", calls.name());
     assert_eq!(length[numbers..], pattern::<u64>(for_length)[numbers..], "the rest by {}", calls.name());
@@ -1247,7 +1308,7 @@ fn hung(calls: &dyn Calls, plan: &Draft, lines: &[&str], name: &str) {
     }
     assert!(paged(calls, &plan.bytes(), 84_009, 1) == Ok(expected), "{name} by {}", calls.name());
     assert_eq!(paged(calls, &plan.bytes(), 84_009, 0), Err(9), "{name} by {}", calls.name());
-    let case = Case::page(&plan.bytes(), needed, LENGTH);
+    let case = Case::page(&plan.bytes(), 0u32, needed, LENGTH);
     case.compare(calls).unwrap_or_else(|message| fail(&case, calls, message, name));
 }
 
@@ -1467,7 +1528,7 @@ fn needs_of_one_to_four_digits() {
         assert_eq!(lines[1 + 3 * 31 + 1], "  31    2   1024 ##                     ", "by {}", calls.name());
         assert_eq!(lines[159], "  63    3   1024 ##                     ", "by {}", calls.name());
         assert_eq!(paged(calls, &plan.bytes(), 41 * 160 - 1, 1), Err(9), "by {}", calls.name());
-        let case = Case::page(&plan.bytes(), page::LINE * 160, LENGTH);
+        let case = Case::page(&plan.bytes(), 0u32, page::LINE * 160, LENGTH);
         case.compare(calls).unwrap_or_else(|message| fail(&case, calls, message, "needs of one to four digits"));
     }
 }
@@ -1511,7 +1572,7 @@ fn the_largest_page() {
     }
 }
 
-/// W-206: "made from the same plan bytes" as W-205's numbers; the lowest of 1 to 7 that applies comes before 9.
+/// W-206: "made from the same plan bytes" as W-205's numbers; the first of 1 to 7 and 16 that applies comes before 9.
 #[test]
 fn plans_that_have_no_page() {
     for calls in common::everyone() {
@@ -1520,6 +1581,395 @@ fn plans_that_have_no_page() {
                 assert_eq!(paged(calls, plan, lent, for_length), Err(*number), "{plan:?} into {lent} by {}", calls.name());
             }
         }
+    }
+}
+
+/// Plans A to H as parties 0 to 7 of one plan: all their lines, with the starts, n and m that are everyone's.
+fn listed_as_parties(starts: &[u8]) -> Draft<PartyLine> {
+    let lines: Vec<PartyLine> = (0..).zip(listed()).flat_map(|(party, (_, plan, _))| plan.of_party(party).lines).collect();
+    parted(4, 2, starts, &lines)
+}
+
+/// W-207: "One party's count is that of an edition 1 plan with those lines alone." Plans A to H as the parties of one plan, by its starts.
+#[test]
+fn plans_a_to_h_as_parties() {
+    let rows: [(&[u8], [Result<u32, u32>; 8]); 3] = [
+        // A and B as document 01 has them; from 0 alone each line of C, D, G and H that is reached leads to one stake; E and F have no lines
+        (&[0], [Ok(1), Err(15), Ok(0), Ok(0), Ok(0), Ok(0), Ok(0), Ok(0)]),
+        // C, F, G and H as document 01 has them; 0 and 1 go on with 0 for ever in A, B and D; E has no lines, as F
+        (&[0, 1], [Err(15), Err(15), Ok(3), Err(15), Ok(1), Ok(1), Ok(3), Err(15)]),
+        (&[], [Ok(0); 8]),
+    ];
+    for calls in common::everyone() {
+        for (starts, expected) in &rows {
+            let plan = listed_as_parties(starts);
+            for (party, expected) in (0..).zip(expected) {
+                counted_for(calls, &plan, party, *expected, &format!("party {party} from {starts:?}"));
+                counted(calls, &plan.alone(party as u8), *expected, &format!("party {party} alone from {starts:?}"));
+                // whoever else walks the plan, and in whichever order the lines stand
+                let mut backwards = plan.clone();
+                backwards.lines.reverse();
+                assert_eq!(prepared_for(calls, &backwards, party), prepared_for(calls, &plan, party), "by {}", calls.name());
+                assert_eq!(prepared_for(calls, &plan, party), prepared(calls, &plan.alone(party as u8)), "by {}", calls.name());
+            }
+            // "p and e count all lines", of whatever party
+            let mut counts = [0; COUNTS];
+            assert_eq!(calls.read(&plan.bytes(), &mut counts), 4);
+            assert_eq!(counts, [2, starts.len() as u32, 21], "by {}", calls.name());
+            // "the drawing program's entry" names 0
+            let number = expected[0].unwrap_or_else(|refusal| REFUSED + refusal);
+            assert_eq!(calls.count(&plan.bytes()), number, "from {starts:?} by {}", calls.name());
+        }
+        // A's table among 4 stakes and 2 codes, and that of a party without lines
+        let plan = listed_as_parties(&[0]);
+        assert_eq!(prepared_for(calls, &plan, 0), Ok((1, vec![4, 2, 1, 0b1, 0b10, 0, 0b110, 0, 0, 0, 0, 0])));
+        assert_eq!(prepared_for(calls, &plan, 4), Ok((0, vec![4, 2, 0, 0b1, 0, 0, 0, 0, 0, 0, 0, 0])));
+    }
+}
+
+/// W-207 where one party can be predicted and another not: 15 with evidence for the one alone, and the check of the same claim says yes for
+/// the one and no for the other. All lines together could not be predicted.
+#[test]
+fn two_parties_of_which_one_is_predictable() {
+    let (a, b) = (plan_a().lines, [(0, 0, 0), (0, 0, 1), (1, 0, 1)]);
+    let claim = [0, 0, 0, 1, 0, 1];
+    let of_a = [
+        "from           0 #                      \n",
+        "   0    0      0 #                      \n",
+        "   1    0      1 ##                     \n",
+    ];
+    let of_b = [
+        "from           0 #                      \n",
+        "   0    0      - ##                     \n",
+        "   1    0      0 #                      \n",
+    ];
+    for (predictable, other) in [(0, 1), (1, 0), (3, 5), (7, 0), (0, 7)] {
+        let lines = [draft(3, 1, &[0], &a).of_party(predictable).lines, draft(3, 1, &[0], &b).of_party(other).lines].concat();
+        let plan = parted(3, 1, &[0], &lines);
+        let bytes = plan.bytes();
+        let (predictable, other) = (predictable as u32, other as u32);
+        for calls in common::everyone() {
+            let name = format!("parties {predictable} and {other}");
+            counted_for(calls, &plan, predictable, Ok(1), &name);
+            counted_for(calls, &plan, other, Err(15), &name);
+            assert!(said_yes_for(calls, &plan, other, claim, &[0]), "{name} by {}", calls.name());
+            assert!(!said_yes_for(calls, &plan, predictable, claim, &[0]), "{name} by {}", calls.name());
+            // the other's evidence, whichever it is, is none for the predictable party, and its table is untouched
+            let (mut table, mut codes, mut numbers) = (pattern::<u64>(7), pattern::<u8>(9), [0; evidence::NUMBERS]);
+            assert_eq!(calls.prepare(&bytes, other, &mut table, &mut codes, &mut numbers), REFUSED + 15, "{name} by {}", calls.name());
+            assert_eq!(table, pattern::<u64>(7), "{name} by {}", calls.name());
+            assert!(said_yes_for(calls, &plan, other, numbers, &codes), "{name} by {}", calls.name());
+            assert!(!said_yes_for(calls, &plan, predictable, numbers, &codes), "{name} by {}", calls.name());
+            // a party of 0 to 7 that has no lines
+            for none in (0..8).filter(|&party| ![predictable, other].contains(&party)) {
+                counted_for(calls, &plan, none, Ok(0), &name);
+                assert!(!said_yes_for(calls, &plan, none, claim, &[0]), "{name} by {}", calls.name());
+                assert_eq!(paged_for(calls, &bytes, none, 41, 1).as_deref(), Ok(of_a[0]), "{name} by {}", calls.name());
+            }
+            assert_eq!(calls.count(&bytes), [1, REFUSED + 15, 0][[predictable, other].iter().position(|&party| party == 0).unwrap_or(2)]);
+            assert_eq!(paged_for(calls, &bytes, predictable, 123, 1), Ok(of_a.concat()), "{name} by {}", calls.name());
+            assert_eq!(paged_for(calls, &bytes, other, 123, 1), Ok(of_b.concat()), "{name} by {}", calls.name());
+            for (party, expected) in [(predictable, [0, 0, 1, OUT]), (other, [0, NONE, 0, OUT])] {
+                let mut numbers = [7; 4];
+                assert_eq!((calls.needs(&bytes, party, &mut numbers), numbers), (4, expected), "{name} by {}", calls.name());
+            }
+        }
+    }
+    // all lines together
+    let all = draft(3, 1, &[0], &[(0, 0, 0), (0, 0, 1), (1, 0, 1), (1, 0, 2)]);
+    common::everyone().into_iter().for_each(|calls| counted(calls, &all, Err(15), "all lines"));
+}
+
+/// "Demand 3 now speaks of the named party's lines": the same legs on the table of each party of one plan.
+#[test]
+fn walks_of_two_parties() {
+    // on foot 0 leads by 0 to 1 and 1 back; on skis 0 leads by 0 to 1 and 2, of which 1 goes on with 1 alone and 2 with 0 alone
+    let lines = [(0, 0, 1, 0), (1, 0, 0, 0), (0, 0, 1, 1), (0, 0, 2, 1), (1, 1, 0, 1), (2, 0, 0, 1)];
+    let plan = parted(3, 2, &[0], &lines);
+    let rows: [(u32, &[u32], &[u32], &[u64]); 3] = [
+        // each leg books at once; code 1 can't be walked on foot
+        (0, &[0, 0, 1, 0], &[1, 0, REFUSED + 13, 1], &[]),
+        // each leg books the position before it, and the last one leaves 1 and 2 open
+        (1, &[0, 0, 0, 1, 0], &[0, 2, 0, 1, 0], &[0b110]),
+        // without lines nothing can be walked
+        (2, &[0, 1], &[REFUSED + 13, REFUSED + 13], &[]),
+    ];
+    for calls in common::everyone() {
+        for (party, legs, replies, open) in rows {
+            let k = open.len();
+            counted_for(calls, &plan, party, Ok(k as u32), &format!("party {party}"));
+            let (_, table) = prepared_for(calls, &plan, party).expect("a k");
+            let (mut rec, mut position) = (vec![0; record::length(k)], [77]);
+            assert_eq!(calls.open(&table, &mut rec, &mut position), if k == 0 { 0 } else { NOTHING }, "party {party} by {}", calls.name());
+            let given: Vec<u32> = legs.iter().map(|&leg| calls.feed(&table, &mut rec, leg, &mut position)).collect();
+            assert_eq!(given, replies, "party {party} by {}", calls.name());
+            let mut sets = vec![0; k];
+            assert_eq!((calls.finish(&table, &rec, &mut sets), sets.as_slice()), (k as u32, open), "party {party} by {}", calls.name());
+            let session = Case::Session(Session { plan: plan.bytes(), party, legs: legs.to_vec(), extra: 1 });
+            session.compare(calls).unwrap_or_else(|message| fail(&session, calls, message, "walks of two parties"));
+        }
+    }
+}
+
+/// Lines of two stakes and one code in edition 2.
+fn two_stakes(lines: &[PartyLine]) -> Vec<u8> {
+    parted(2, 1, &[0], lines).bytes()
+}
+
+/// W-207: "Two lines are now the same only if all four agree, so refusal 7 is finer there"; "16, a party above 7 in a line .. after 7". And
+/// 6 does not look at the party. Whatever is lent and whichever party is named.
+#[test]
+fn refusals_6_7_and_16_of_lines() {
+    let rows: [(u32, &[PartyLine]); 24] = [
+        (16, &[(0, 0, 1, 8)]),
+        (16, &[(0, 0, 1, 9)]),
+        (16, &[(0, 0, 1, 128)]),
+        (16, &[(0, 0, 1, 200)]),
+        (16, &[(0, 0, 1, 255)]),
+        (16, &[(0, 0, 1, 0), (1, 0, 1, 1), (1, 0, 0, 8)]),
+        (16, &[(1, 0, 0, 8), (0, 0, 1, 0), (1, 0, 1, 1)]),
+        // equal in all four, though of no party
+        (7, &[(0, 0, 1, 200), (0, 0, 1, 200)]),
+        (7, &[(0, 0, 1, 8), (1, 0, 1, 8), (0, 0, 1, 8)]),
+        // not equal, though a part of the bits is
+        (16, &[(0, 0, 1, 9), (0, 0, 1, 17)]),
+        (16, &[(0, 0, 1, 1), (0, 0, 1, 9)]),
+        (16, &[(0, 0, 1, 0), (0, 0, 1, 8)]),
+        (16, &[(0, 0, 1, 0), (0, 0, 1, 128)]),
+        (16, &[(0, 0, 1, 72), (0, 0, 1, 200)]),
+        // 7 for two lines, and 16 for a third
+        (7, &[(0, 0, 1, 0), (0, 0, 1, 0), (1, 0, 1, 8)]),
+        (7, &[(1, 0, 1, 8), (0, 0, 1, 7), (0, 0, 1, 7)]),
+        (7, &[(0, 0, 1, 3), (1, 0, 1, 255), (0, 0, 1, 3)]),
+        // 6 beside both
+        (6, &[(0, 0, 2, 8)]),
+        (6, &[(0, 1, 1, 255)]),
+        (6, &[(2, 0, 1, 200), (2, 0, 1, 200)]),
+        (6, &[(0, 0, 1, 8), (0, 0, 2, 0)]),
+        (6, &[(0, 0, 1, 0), (0, 0, 1, 0), (1, 1, 0, 0)]),
+        // 7 within one party alone
+        (7, &[(0, 0, 1, 5), (1, 0, 1, 5), (0, 0, 1, 4), (0, 0, 1, 5)]),
+        (7, &[(1, 0, 1, 7), (1, 0, 1, 7)]),
+    ];
+    for calls in common::everyone() {
+        for (number, lines) in rows {
+            for party in [0, 1, 5, 7, 8, 256, u32::MAX] {
+                refused(calls, &two_stakes(lines), party, number, &format!("{lines:?}"));
+            }
+        }
+        // 5 before them; 16 also where the parts stand otherwise
+        let twice = parted(2, 1, &[1, 1], &[(0, 0, 1, 8), (0, 0, 1, 8)]);
+        refused(calls, &twice.bytes(), 0, 5, "a start twice");
+        let otherwise = parted(2, 1, &[1, 0], &[(0, 0, 1, 0), (1, 0, 1, 9)]);
+        drawn_otherwise(&otherwise).iter().for_each(|plan| refused(calls, plan, 0, 16, "drawn otherwise"));
+    }
+}
+
+/// The same line for every party, each of which has it: no two are the same. In edition 1 there is no party to tell them apart by.
+#[test]
+fn lines_that_differ_in_the_party_alone() {
+    let lines: Vec<PartyLine> = (0..8).flat_map(|party| [(0, 0, 1, party), (1, 0, 0, 7 - party)]).collect();
+    let plan = parted(2, 1, &[0], &lines);
+    for calls in common::everyone() {
+        for party in 0..8 {
+            counted_for(calls, &plan, party, Ok(0), "one line from each stake");
+            assert_eq!(prepared_for(calls, &plan, party), Ok((0, vec![2, 1, 0, 0b1, 0b10, 0b1])), "by {}", calls.name());
+        }
+        refused(calls, &draft(2, 1, &[0], &[(0, 0, 1), (0, 0, 1)]).bytes(), 0, 7, "the same of edition 1");
+        // one of them under the party of another
+        for (line, party) in [(0, 1), (0, 7), (15, 1), (2, 0), (14, 0)] {
+            let mut again = lines.clone();
+            again[line].3 = party;
+            refused(calls, &two_stakes(&again), 0, 7, &format!("line {line} as party {party}'s"));
+        }
+    }
+}
+
+/// Numbers that are no party: every one above 7, be a part of its bits a party's or not.
+const NO_PARTIES: [u32; 14] = [8, 9, 15, 16, 128, 200, 255, 256, 263, 65_535, 65_536, 65_543, 1 << 31, u32::MAX];
+
+/// W-207: 16 for "a party above 7 .. in the call, or a party other than 0 named for edition 1", before 9, and after 1 to 7. The calls that
+/// name none are not concerned.
+#[test]
+fn parties_that_may_not_be_named() {
+    for calls in common::everyone() {
+        let refused_where_named = |plan: &[u8], party: u32, name: &str| {
+            for is_lent in [true, false] {
+                let of_0 = replies(calls, plan, 0, is_lent, name);
+                for ((call, reply), (_, by_0)) in replies(calls, plan, party, is_lent, name).into_iter().zip(of_0) {
+                    let expected = if call.takes("party") { REFUSED + 16 } else { by_0 };
+                    assert_eq!(reply, expected, "{name}: {} for party {party} by {}", call.name, calls.name());
+                }
+            }
+        };
+        for (name, plan, _) in listed() {
+            for party in (1..8).chain(NO_PARTIES) {
+                refused_where_named(&plan.bytes(), party, name);
+            }
+            for party in NO_PARTIES {
+                refused_where_named(&plan.of_party(0).bytes(), party, name);
+                refused_where_named(&plan.of_party(7).bytes(), party, name);
+            }
+        }
+        // "16 .. after 7": what is wrong with the plan comes first
+        for (number, plan) in refused_plans() {
+            for party in (0..8).chain(NO_PARTIES) {
+                refused(calls, &plan, party, number, "a plan that is refused");
+            }
+        }
+    }
+}
+
+/// W-207: "Refusal 2 now means neither 1 nor 2".
+#[test]
+fn editions() {
+    let plans = [plan_a().bytes(), plan_a().of_party(0).bytes(), draft(1, 1, &[], &[]).bytes(), two_stakes(&[(0, 0, 1, 8)])];
+    for calls in common::everyone() {
+        for plan in &plans {
+            for edition in [0, 3, 4, 5, 255, 256, 257, 258, 512, 513, 514, 65_535] {
+                let mut other = plan.clone();
+                set_number(&mut other, EDITION, edition);
+                refused(calls, &other, 0, 2, &format!("edition {edition}"));
+            }
+        }
+        // without lines both editions say the same
+        for edition in [1, 2] {
+            let mut none = draft(2, 1, &[0, 1], &[]).bytes();
+            set_number(&mut none, EDITION, edition);
+            assert_eq!(calls.count(&none), 1, "edition {edition} by {}", calls.name());
+        }
+    }
+}
+
+/// W-207: "part lengths follow the edition". Two lines, 6 bytes or 8, and one start.
+#[test]
+fn parts_by_the_edition() {
+    // where starts and lines begin, the total, and what each edition makes of it
+    let rows: [(usize, usize, usize, [bool; 2]); 14] = [
+        (16, 17, 23, [true, false]),
+        (16, 17, 24, [true, false]),
+        (16, 17, 25, [true, true]),
+        (16, 18, 25, [true, false]),
+        (16, 19, 25, [true, false]),
+        (16, 20, 25, [false, false]),
+        // lines first: the start stands behind them, or on their last bytes
+        (22, 16, 25, [true, false]),
+        (23, 16, 25, [true, false]),
+        (24, 16, 25, [true, true]),
+        (21, 16, 25, [false, false]),
+        (16, 16, 25, [false, false]),
+        (30, 22, 31, [true, true]),
+        (29, 22, 31, [true, false]),
+        (28, 22, 31, [true, false]),
+    ];
+    for calls in common::everyone() {
+        for (starts_at, lines_at, total, fits) in rows {
+            for (edition, fits) in (1..).zip(fits) {
+                let mut plan = header([edition, 2, 1, 1, 2, starts_at, lines_at, total]);
+                plan.resize(total, 0);
+                if fits {
+                    let lines: &[u8] = if edition == 1 { &[0, 0, 1, 1, 0, 1] } else { &[0, 0, 1, 0, 1, 0, 1, 0] };
+                    plan[lines_at..][..lines.len()].copy_from_slice(lines);
+                    assert_eq!(calls.count(&plan), 0, "{starts_at}, {lines_at}, {total} in edition {edition} by {}", calls.name());
+                } else {
+                    refused(calls, &plan, 0, 4, &format!("{starts_at}, {lines_at}, {total} in edition {edition}"));
+                }
+            }
+        }
+        // no lines: a part of no bytes may stand anywhere, the start's byte included
+        for edition in [1, 2] {
+            for lines_at in 16..=20 {
+                let mut plan = header([edition, 2, 1, 1, 0, 17, lines_at, 20]);
+                plan.resize(20, 0);
+                assert_eq!(calls.count(&plan), 0, "no lines at {lines_at} in edition {edition} by {}", calls.name());
+            }
+        }
+    }
+}
+
+/// W-207 at the greatest sizes: 4,096 lines of four bytes.
+#[test]
+fn sizes_of_edition_2() {
+    // every line of 64 stakes with one code as the line of a party; 512 lines for each of 8 parties, the same for all; all of one party
+    let every: Vec<PartyLine> = (0..64).flat_map(|from| (0..64).map(move |to| (from, 0, to, (from + to) % 8))).collect();
+    let eightfold: Vec<PartyLine> =
+        (0..8).flat_map(|party| (0..8).flat_map(move |from| (8..64).chain(0..8).map(move |to| (from, 31, to, party)))).collect();
+    let across: Vec<Line> = (0..32).flat_map(|from| (0..4).flat_map(move |code| (32..64).map(move |to| (from, code, to)))).collect();
+    let across = draft(64, 4, &[7], &across);
+    let largest = (0..64).collect::<Vec<u8>>();
+    for calls in common::everyone() {
+        for (m, starts, lines, name) in [(1, &largest[..], &every, "every line"), (32, &[7], &eightfold, "eight parties' lines")] {
+            assert_eq!(lines.len(), 4096);
+            let plan = parted(64, m, starts, lines);
+            let mut counts = [0; COUNTS];
+            assert_eq!(calls.read(&plan.bytes(), &mut counts), 64, "{name} by {}", calls.name());
+            assert_eq!(counts, [m as u32, starts.len() as u32, 4096], "{name} by {}", calls.name());
+            for party in [0, 3, 7] {
+                // among all stakes as starts, or among those that 7 leads to, some two share words without end
+                counted_for(calls, &plan, party, Err(15), name);
+            }
+            // one line twice, wherever; in the place of another, or of one that differs in the party alone
+            for (from, to) in [(0, 4095), (4095, 0), (17, 18), (2048, 1)] {
+                let mut twice = lines.clone();
+                twice[to] = twice[from];
+                refused(calls, &parted(64, m, starts, &twice).bytes(), 0, 7, name);
+            }
+            // a party that is none, in the first line or the last
+            for place in [0, 4095] {
+                let mut stray = lines.clone();
+                stray[place].3 = 8;
+                refused(calls, &parted(64, m, starts, &stray).bytes(), 7, 16, name);
+            }
+            // all of parties that are none, and one of them twice
+            let mut stray: Vec<PartyLine> = lines.iter().map(|&(from, code, to, party)| (from, code, to, 200 + party)).collect();
+            refused(calls, &parted(64, m, starts, &stray).bytes(), 0, 16, name);
+            stray[4095] = stray[0];
+            refused(calls, &parted(64, m, starts, &stray).bytes(), 0, 7, name);
+            // one line more
+            let more = [&lines[..], &[(63, 0, 63, 7)]].concat();
+            refused(calls, &parted(64, m, starts, &more).bytes(), 0, 3, name);
+        }
+        for (party, other) in [(0, 7), (7, 0)] {
+            counted_for(calls, &across.of_party(party), party as u32, Ok(1), "all lines of one party");
+            counted_for(calls, &across.of_party(party), other, Ok(0), "no line of another");
+        }
+    }
+}
+
+/// W-201 for edition 2: "The writer of W-201 orders by party last", and the written edition is the plan's own.
+#[test]
+fn one_form_of_edition_2() {
+    // by hand, drawn with the lines first and backwards, with gaps
+    let form = [2, 0, 3, 0, 2, 0, 2, 0, 5, 0, 0x10, 0, 0x12, 0, 0x26, 0, 0, 2, 0, 0, 1, 0, 0, 0, 1, 7, 0, 0, 2, 3, 0, 1, 0, 2, 2, 0, 0, 1];
+    let drawn_header = [2, 0, 3, 0, 2, 0, 2, 0, 5, 0, 0x26, 0, 0x11, 0, 0x2B, 0];
+    let drawn_parts = [99, 2, 0, 0, 1, 0, 1, 0, 2, 0, 0, 2, 3, 0, 0, 1, 7, 0, 0, 1, 0, 99, 2, 0, 99, 99, 99];
+    let stakes: Vec<u8> = (0..64).collect();
+    let every: Vec<PartyLine> = (0..64).flat_map(|from| (0..64).map(move |to| (from, 31, to, (from + to) % 8))).collect();
+    let eightfold: Vec<PartyLine> =
+        (0..64).flat_map(|from| (0..8).flat_map(move |to| (0..8).map(move |party| (from, 0, to, party)))).collect();
+    for calls in common::everyone() {
+        assert_eq!(written(calls, &form), form);
+        assert_eq!(written(calls, &[&drawn_header[..], &drawn_parts].concat()), form);
+        for (name, plan, _) in &listed() {
+            for party in [0, 1, 7] {
+                filed(calls, &plan.of_party(party), name);
+                // of the same lines, of edition 1 and of another party, the bytes are others
+                assert_ne!(written(calls, &plan.bytes()), written(calls, &plan.of_party(party).bytes()));
+                let other = written(calls, &plan.of_party(party ^ 1).bytes());
+                assert_eq!(other == written(calls, &plan.of_party(party).bytes()), plan.lines.is_empty(), "{name} by {}", calls.name());
+            }
+        }
+        let mut in_order = listed_as_parties(&[0, 1]);
+        in_order.lines.sort();
+        filed(calls, &in_order, "plans A to H as parties");
+        for lines in [&every, &eightfold] {
+            filed(calls, &parted(64, 32, &stakes, lines), "64 starts and 4,096 lines");
+            assert_eq!(written(calls, &parted(64, 32, &stakes, lines).bytes()).len(), 16_464);
+        }
+        // from before code before to before the party, each at its ends
+        let numbers = [0, 63].map(|from| [0, 31].map(|code| [0, 63].map(|to| [0, 7].map(|party| (from, code, to, party)))));
+        let ends: Vec<PartyLine> = numbers.into_iter().flatten().flatten().flatten().collect();
+        filed(calls, &parted(64, 32, &[0, 63], &ends), "the ends of every range");
     }
 }
 
@@ -1564,7 +2014,7 @@ fn a_million_legs() {
                 }
             }
             legs.extend([0, 255, u32::MAX, 0]);
-            let session = Session { plan: plan.bytes(), legs, extra: 2 };
+            let session = Session { plan: plan.bytes(), party: 0, legs, extra: 2 };
             match session.compare(calls) {
                 Ok(met) => {
                     assert!(met.contains(&"session of 1,000,000 legs".to_string()), "{met:?}");

@@ -3,7 +3,7 @@
 
 mod common;
 
-use common::program::{plan_a, refused_inputs, ring, with_legs, PAGE};
+use common::program::{plan_a, plan_a_among_others, refused_inputs, ring, with_legs, PAGE};
 use conformance::families::{draft, odometer, Draft, Line};
 use conformance::forms::page;
 use conformance::random::{bytes, plans, Random};
@@ -37,7 +37,7 @@ fn the_sample_with_legs_and_without() {
 
 /// A refusal is the only line, as in the report: 1 is for "fewer than 16 bytes, a total below 16, or fewer bytes than the total".
 #[test]
-fn refusals_1_to_7() {
+fn refusals_1_to_7_and_16() {
     for (number, input) in refused_inputs() {
         assert_eq!(PAGE.written(&input), format!("refused {number} author\n"), "{input:?}");
         PAGE.agree(&input, "a refused plan");
@@ -67,6 +67,21 @@ fn plans_that_are_not_refused() {
     PAGE.agree(&odometer(32, 32).bytes(), "needs of 1,024");
 }
 
+/// W-207: as in the report, party 0 is named.
+#[test]
+fn the_page_of_party_0() {
+    let of_0 = plan_a_among_others();
+    for plan in [plan_a().of_party(0), of_0.clone()] {
+        assert_eq!(PAGE.written(&plan.bytes()), SAMPLE);
+        PAGE.agree(&with_legs(&plan, &[0, 0]), "plan A as party 0's");
+    }
+    // of party 0's lines none is left: the starts alone
+    let mut of_others = of_0;
+    of_others.lines.retain(|line| line.3 > 0);
+    assert_eq!(PAGE.written(&of_others.bytes()), "from           0 #                      \n");
+    PAGE.agree(&of_others.bytes(), "no line of party 0");
+}
+
 #[test]
 fn the_largest_page() {
     let text = PAGE.written(&largest().bytes());
@@ -87,7 +102,7 @@ fn random_plans() {
         if r.percent(12) {
             plan.starts.clear();
         }
-        let mut input = bytes::layout(&mut r, &plan);
+        let (mut input, _) = bytes::in_an_edition(&mut r, &plan);
         if r.percent(35) {
             bytes::damage(&mut r, &mut input, 2);
         }
@@ -112,7 +127,7 @@ fn random_plans() {
         PAGE.agree(&input, &format!("GAWHERINO_SEED={seed} input {number}"));
     }
     println!("{how_many} inputs: {met:?}");
-    let refusals = (1..=7).map(|number| format!("refused {number} author"));
+    let refusals = (1..=7).chain([16]).map(|number| format!("refused {number} author"));
     for kind in refusals.chain(["an empty page", "an empty page, legs", "lines", "lines, legs"].map(String::from)) {
         assert!(met.contains_key(&kind), "{kind}: never met");
     }
@@ -177,7 +192,7 @@ mod reading {
             let mut r = Random::new(seed ^ 0x51B, number);
             let drawn = plans::plan(&mut r);
             let plan = plans::to_page(&mut r, &drawn);
-            let mut input = bytes::layout(&mut r, &plan);
+            let (mut input, _) = bytes::in_an_edition(&mut r, &plan);
             let legs = r.below(100);
             input.extend(r.bytes(legs));
             let most = r.pick(&[1, 2, 7, 40, 5000]);
@@ -237,7 +252,7 @@ mod reading {
         let mut below_16 = plan_a().bytes();
         below_16[14] = 15;
         let mut edition = plan_a().bytes();
-        edition[0] = 2;
+        edition[0] = 3;
         // (an input, and how many of its bytes may be read at the most)
         for (plan, most) in [
             (plan_a().bytes(), plan_a().bytes().len()),

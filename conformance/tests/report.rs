@@ -3,10 +3,10 @@
 
 mod common;
 
-use common::program::{plan_a, refused_inputs, ring, with_legs, REPORT, SAMPLE};
-use conformance::families::{draft, odometer, Draft};
+use common::program::{plan_a, plan_a_among_others, refused_inputs, ring, with_legs, REPORT, SAMPLE};
+use conformance::families::{draft, odometer, parted, Draft};
 use conformance::random::{bytes, plans, walks, Random};
-use conformance::reference::plan::read;
+use conformance::reference::plan::read_for;
 use conformance::reference::report::report;
 
 fn written(input: &[u8]) -> String {
@@ -29,7 +29,7 @@ fn the_sample_of_document_01() {
 
 #[test]
 fn what_document_01_says_of_refusals() {
-    // the only line for 1 to 7
+    // the only line for 1 to 7, and W-207: it "treats 16 as it does 7"
     for (number, input) in refused_inputs() {
         assert_eq!(written(&input), format!("refused {number} author\n"), "{input:?}");
     }
@@ -62,6 +62,32 @@ fn what_document_01_says_of_refusals() {
     let text = "stakes 2 codes 1 starts 1 lines 1\nlook-ahead 0\nat 0 stake 0\nat 1 stake 1\nrefused 13 logger\n";
     assert_eq!(written(&with_legs(&line, &[0, 0, 0])), text);
     assert_eq!(report(&with_legs(&line, &[0, 0, 0])), text);
+}
+
+/// W-207: "The report .. and the drawing program's entry name 0"; line 1 counts all lines, of whatever party.
+#[test]
+fn party_0_is_reported() {
+    let of_0 = plan_a_among_others();
+    let walked = "look-ahead 1\nat 0 stake 0\nat 1 stake 1\nat 2 stake 1\nopen 3 stakes 1 2\n";
+    // plan A alone, in edition 2; among others' lines; and plan B for party 0, without a look-ahead
+    let mut of_3 = of_0.clone();
+    of_3.lines.iter_mut().for_each(|line| line.3 = [3, 1, 2, 0, 4, 5, 6, 7][line.3 as usize]);
+    let rows = [
+        (with_legs(&plan_a().of_party(0), &[0, 0, 0]), format!("stakes 3 codes 1 starts 1 lines 3\n{walked}")),
+        (with_legs(&of_0, &[0, 0, 0]), format!("stakes 3 codes 1 starts 1 lines 12\n{walked}")),
+        (with_legs(&of_3, &[0, 0, 0]), "stakes 3 codes 1 starts 1 lines 12\nrefused 15 author\n".to_string()),
+        // no line of party 0: nothing can be walked
+        (
+            with_legs(&plan_a().of_party(1), &[0, 0, 0]),
+            "stakes 3 codes 1 starts 1 lines 3\nlook-ahead 0\nat 0 stake 0\nrefused 13 logger\n".to_string(),
+        ),
+        // 16 in a line of another party is the only line, and 7 comes before it
+        (with_legs(&parted(2, 1, &[0], &[(0, 0, 1, 0), (0, 0, 1, 8)]), &[0]), "refused 16 author\n".to_string()),
+        (with_legs(&parted(2, 1, &[0], &[(0, 0, 1, 200), (0, 0, 1, 200)]), &[0]), "refused 7 author\n".to_string()),
+    ];
+    for (input, text) in rows {
+        assert_eq!((written(&input), report(&input)), (text.clone(), text), "{input:?}");
+    }
 }
 
 /// A refused leg in every part of an input, and at the borders of the parts that the program reads.
@@ -109,7 +135,7 @@ fn a_million_legs_and_the_next() {
 fn a_long_count() {
     let plan = odometer(32, 32);
     let bytes = plan.bytes();
-    let meaning = read(&bytes).expect("sound").plan;
+    let meaning = read_for(&bytes, 0).expect("sound");
     let mut r = Random::new(common::seed(), 7);
     for length in [0, 100, 1023, 1024, 1025, 1500] {
         let legs = walks::legs(&mut r, &meaning, length);
@@ -125,8 +151,8 @@ fn random_plans_and_legs() {
     for number in 0..how_many {
         let mut r = Random::new(seed ^ 0x2E9, number);
         let draft = plans::plan(&mut r);
-        let mut input = bytes::layout(&mut r, &draft);
-        let meaning = read(&input).expect("sound").plan;
+        let (mut input, _) = bytes::in_an_edition(&mut r, &draft);
+        let meaning = read_for(&input, 0).expect("sound");
         let length = r.pick(&[0, 1, 3, 10, 40, 150]);
         let legs = walks::legs(&mut r, &meaning, length);
         if r.percent(35) {
@@ -147,7 +173,7 @@ fn random_plans_and_legs() {
         agree(&input, &format!("GAWHERINO_SEED={seed} input {number}"));
     }
     println!("{how_many} inputs: {met:?}");
-    for number in [1, 2, 3, 4, 5, 6, 7, 12, 13, 15] {
+    for number in [1, 2, 3, 4, 5, 6, 7, 16, 12, 13, 15] {
         assert!(met.keys().any(|line| line.starts_with(&format!("refused {number} "))), "refusal {number} was never met");
     }
 }

@@ -6,7 +6,7 @@ mod common;
 use common::program::{pieces, plan_a, refused_inputs, ring, text, with_legs, REPORT, SAMPLE};
 use conformance::families::{draft, odometer};
 use conformance::random::{bytes, plans, walks, Random};
-use conformance::reference::plan::read;
+use conformance::reference::plan::read_for;
 use conformance::reference::report::report;
 use std::fs::File;
 use std::io::{BufRead, BufReader, Seek, Write};
@@ -78,8 +78,8 @@ fn random_inputs_in_random_parts() {
     for number in 0..10 * common::seconds().max(20) {
         let mut r = Random::new(seed ^ 0x51A, number);
         let draft = plans::plan(&mut r);
-        let mut input = bytes::layout(&mut r, &draft);
-        let meaning = read(&input).expect("sound").plan;
+        let (mut input, _) = bytes::in_an_edition(&mut r, &draft);
+        let meaning = read_for(&input, 0).expect("sound");
         let length = r.pick(&[0, 1, 3, 10, 40, 150]);
         let legs = walks::legs(&mut r, &meaning, length);
         input.extend(&legs);

@@ -141,7 +141,7 @@ int main(void)
     uint32_t evidence[GAWHERINO_EVIDENCE], position[1], k, length, cut_save, i, offered = 0, passed = 0, cuts = 0;
     size_t cut;
 
-    k = gawherino_prepare(plan, sizeof plan, table, GAWHERINO_MAX_TABLE, letters, sizeof letters, evidence, GAWHERINO_EVIDENCE);
+    k = gawherino_prepare(plan, sizeof plan, 0, table, GAWHERINO_MAX_TABLE, letters, sizeof letters, evidence, GAWHERINO_EVIDENCE);
     expect("look-ahead", k, 3);
     if (GAWHERINO_IS_REFUSED(k))
         return 1;

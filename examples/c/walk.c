@@ -49,7 +49,7 @@ int main(void)
     n = gawherino_read(plan_a, sizeof plan_a, counts, 3);
     expect("stakes", n, 3);
     printf("stakes %u codes %u starts %u lines %u\n", (unsigned)n, (unsigned)counts[0], (unsigned)counts[1], (unsigned)counts[2]);
-    k = gawherino_prepare(plan_a, sizeof plan_a, table, GAWHERINO_MAX_TABLE, letters, sizeof letters, evidence, 6);
+    k = gawherino_prepare(plan_a, sizeof plan_a, 0, table, GAWHERINO_MAX_TABLE, letters, sizeof letters, evidence, 6);
     expect("look-ahead", k, 1);
     expect("the drawing entry", gawherino_count(plan_a, sizeof plan_a), k);
     printf("look-ahead %u\n", (unsigned)k);
@@ -77,15 +77,15 @@ int main(void)
     }
 
     /* Plan B is refused with 15; its evidence passes the check, and with an empty loop it does not. */
-    answer = gawherino_look_ahead(plan_b, sizeof plan_b, letters, sizeof letters, evidence, 6);
+    answer = gawherino_look_ahead(plan_b, sizeof plan_b, 0, letters, sizeof letters, evidence, 6);
     expect("plan B", answer, GAWHERINO_REFUSED + 15);
     printf("plan B: set of %u, code %u; stakes %u and %u; lead-in of %u, loop of %u, codes", (unsigned)evidence[0], (unsigned)evidence[1],
            (unsigned)evidence[2], (unsigned)evidence[3], (unsigned)evidence[4], (unsigned)evidence[5]);
     for (i = 0; i < evidence[4] + evidence[5]; i++)
         printf(" %u", (unsigned)letters[i]);
     printf("\n");
-    expect("the evidence", gawherino_check(plan_b, sizeof plan_b, evidence, 6, letters, sizeof letters), 1);
-    expect("no loop", gawherino_check(plan_b, sizeof plan_b, evidence, 5, letters, sizeof letters), 0);
+    expect("the evidence", gawherino_check(plan_b, sizeof plan_b, 0, evidence, 6, letters, sizeof letters), 1);
+    expect("no loop", gawherino_check(plan_b, sizeof plan_b, 0, evidence, 5, letters, sizeof letters), 0);
 
     /* A plan that is cut short is refused, with 1; and without room for the counts the reader still says 1, else 9. */
     answer = gawherino_read(plan_a, sizeof plan_a - 1, counts, 3);

@@ -1,9 +1,9 @@
 //! Benchmarks: the proved library and plain.rs side by side in one run, each call through the same interface of slices. Prints Markdown.
 
 use conformance::calls::Calls;
-use conformance::families::{draft, ladder, odometer, Draft, Line};
+use conformance::families::{draft, ladder, odometer, Draft, Line, PartyLine};
 use conformance::forms::{evidence, letters, needs, page, plan, record, table};
-use conformance::forms::{COUNTS, LENGTH, MAX_CODES, MAX_LINES, MAX_STAKES, NEXT, POSITION, REFUSED};
+use conformance::forms::{COUNTS, LENGTH, MAX_CODES, MAX_LINES, MAX_STAKES, NEXT, PARTIES, POSITION, REFUSED};
 use conformance::library::Library;
 use conformance::plain::Plain;
 use conformance::random::Random;
@@ -149,6 +149,13 @@ fn deterministic(r: &mut Random, m: usize) -> Draft {
     draft(MAX_STAKES, m, &[0], &lines)
 }
 
+/// The same lines in edition 2, each some party's.
+fn mixed(r: &mut Random, plan: &Draft) -> Draft<PartyLine> {
+    let mut plan = plan.of_party(0);
+    plan.lines.iter_mut().for_each(|line| line.3 = r.below(PARTIES as usize) as u8);
+    plan
+}
+
 fn full_size(mut plan: Draft) -> Draft {
     (plan.n, plan.m) = (MAX_STAKES, MAX_CODES);
     plan
@@ -156,7 +163,7 @@ fn full_size(mut plan: Draft) -> Draft {
 
 fn table_of(plan: &Draft) -> Vec<u64> {
     let mut table = vec![0; table::length(plan.n, plan.m)];
-    assert!(Plain.prepare(&plan.bytes(), &mut table, &mut [0; LETTERS], &mut [0; EVIDENCE]) < REFUSED);
+    assert!(Plain.prepare(&plan.bytes(), 0, &mut table, &mut [0; LETTERS], &mut [0; EVIDENCE]) < REFUSED);
     table
 }
 
@@ -187,13 +194,22 @@ fn main() {
     println!("| what | library | plain Rust | plain / library |");
     println!("|---|---|---|---|");
 
-    let full = downhill(&mut r, MAX_CODES, MAX_LINES).bytes();
+    let full = downhill(&mut r, MAX_CODES, MAX_LINES);
+    // whose lines are whose, by other numbers than the lines themselves
+    let mut of_parties = Random::new(2007, 207);
+    let (one_party, eight_parties) = (full.of_party(0).bytes(), mixed(&mut of_parties, &full).bytes());
+    let full = full.bytes();
     let every: Vec<Line> = (0..64).flat_map(|from| (0..64).map(move |to| (from, 0, to))).collect();
     let every = draft(64, 1, &[0], &every);
     let small = draft(3, 1, &[0], &[(0, 0, 1), (1, 0, 1), (1, 0, 2)]).bytes();
-    for (name, plan) in
-        [("read, 4,096 lines over 64 × 32", &full), ("read, 4,096 lines over 64 × 1", &every.bytes()), ("read, plan A", &small)]
-    {
+    for (name, plan) in [
+        ("read, 4,096 lines over 64 × 32", &full),
+        ("read, 4,096 lines over 64 × 1", &every.bytes()),
+        ("read, plan A", &small),
+        ("read, edition 2, 4,096 lines over 64 × 32 of party 0", &one_party),
+        ("read, edition 2, 4,096 lines over 64 × 32 of eight parties", &eight_parties),
+        ("read, edition 2, 4,096 lines over 64 × 1 of eight parties", &mixed(&mut of_parties, &every).bytes()),
+    ] {
         row(name, 1, &|calls| {
             black_box(calls.read(black_box(plan), &mut [0; COUNTS]));
         });
@@ -211,8 +227,11 @@ fn main() {
         ("write, 4,096 lines over 64 × 32 in any order, 64 starts", &any_order.bytes()),
         ("write, the same in order already", &in_order.bytes()),
         ("write, plan A", &small),
+        ("write, edition 2, 4,096 lines over 64 × 32 of party 0 in any order, 64 starts", &any_order.of_party(0).bytes()),
+        ("write, edition 2, the same lines of eight parties", &mixed(&mut of_parties, &any_order).bytes()),
+        ("write, edition 2, the same of party 0 in order already", &in_order.of_party(0).bytes()),
     ] {
-        let out = std::cell::RefCell::new([0; plan::length(MAX_STAKES, MAX_LINES)]);
+        let out = std::cell::RefCell::new([0; plan::length(2, MAX_STAKES, MAX_LINES)]);
         let written = agreed(&|calls| calls.write(plan, out.borrow_mut().as_mut_slice()));
         assert_eq!(written as usize, plan.len());
         row(name, 1, &|calls| {
@@ -244,48 +263,54 @@ fn main() {
         ("dense, 4,096 lines from half to half over 64 × 4, 32 starts", draft(64, 4, &half, &across).bytes()),
     ];
     for (name, plan) in &plans {
-        let reply = agreed(&|calls| calls.look_ahead(plan, &mut [0; LETTERS], &mut [0; EVIDENCE]));
+        let reply = agreed(&|calls| calls.look_ahead(plan, 0, &mut [0; LETTERS], &mut [0; EVIDENCE]));
         assert_eq!(name.starts_with("unpredictable"), reply == REFUSED + 15, "{name}: {}", says(reply));
         row(&format!("count, {name}: {}", says(reply)), 1, &|calls| {
-            black_box(calls.look_ahead(black_box(plan), &mut [0; LETTERS], &mut [0; EVIDENCE]));
+            black_box(calls.look_ahead(black_box(plan), 0, &mut [0; LETTERS], &mut [0; EVIDENCE]));
         });
     }
-    for (name, plan) in [&plans[0], &plans[3], &plans[8]] {
+    // of edition 1 for party 0; of edition 2 for the party that has all lines, and for one of the eight
+    let of_edition_2 = [
+        ("edition 2, 4,096 lines downhill over 64 × 32 of party 0", one_party, 0),
+        ("edition 2, the same lines of eight parties, for party 3", eight_parties, 3),
+    ];
+    let of_edition_1 = |row: &(&'static str, Vec<u8>)| (row.0, row.1.clone(), 0);
+    for (name, plan, party) in [0, 3, 8].map(|row| of_edition_1(&plans[row])).iter().chain(&of_edition_2) {
         let mut table = vec![0; table::length(MAX_STAKES, MAX_CODES)];
-        let reply = agreed(&|calls| calls.prepare(plan, &mut table.clone(), &mut [0; LETTERS], &mut [0; EVIDENCE]));
+        let reply = agreed(&|calls| calls.prepare(plan, *party, &mut table.clone(), &mut [0; LETTERS], &mut [0; EVIDENCE]));
         let table = std::cell::RefCell::new(&mut table);
         row(&format!("prepare, {name}: {}", says(reply)), 1, &|calls| {
-            black_box(calls.prepare(black_box(plan), &mut table.borrow_mut(), &mut [0; LETTERS], &mut [0; EVIDENCE]));
+            black_box(calls.prepare(black_box(plan), *party, &mut table.borrow_mut(), &mut [0; LETTERS], &mut [0; EVIDENCE]));
         });
     }
 
     // of the plans of the count, and of plan A
-    let smallest = ("plan A", small.clone());
-    let measured: Vec<_> = std::iter::once(&smallest).chain([0, 3, 4, 6, 8, 10, 11, 12, 13, 14].map(|row| &plans[row])).collect();
-    for (name, plan) in &measured {
+    let of_plans = [0, 3, 4, 6, 8, 10, 11, 12, 13, 14].map(|row| of_edition_1(&plans[row]));
+    let measured: Vec<_> = [("plan A", small.clone(), 0)].into_iter().chain(of_plans).chain(of_edition_2).collect();
+    for (name, plan, party) in &measured {
         let room = std::cell::RefCell::new([0; needs::length(MAX_STAKES, MAX_CODES)]);
         let numbers = |calls: &dyn Calls| {
             let mut numbers = room.borrow_mut();
-            let length = calls.needs(plan, numbers.as_mut_slice()) as usize;
+            let length = calls.needs(plan, *party, numbers.as_mut_slice()) as usize;
             numbers[..length].to_vec()
         };
         let told = numbers(&Library { null_if_empty: false });
         assert_eq!(told, numbers(&Plain), "the library and plain.rs disagree");
         row(&format!("needs, {name}: {}", says_needs(&told)), 1, &|calls| {
-            black_box(calls.needs(black_box(plan), room.borrow_mut().as_mut_slice()));
+            black_box(calls.needs(black_box(plan), *party, room.borrow_mut().as_mut_slice()));
         });
     }
-    for (name, plan) in &measured {
+    for (name, plan, party) in &measured {
         let room = std::cell::RefCell::new([0; page::most(MAX_STAKES, MAX_CODES)]);
         let text = |calls: &dyn Calls| {
             let (mut page, mut length) = (room.borrow_mut(), [0; LENGTH]);
-            assert_eq!(calls.page(plan, page.as_mut_slice(), &mut length), 0);
+            assert_eq!(calls.page(plan, *party, page.as_mut_slice(), &mut length), 0);
             page[..length[0] as usize].to_vec()
         };
         let told = text(&Library { null_if_empty: false });
         assert!(told == text(&Plain), "the library and plain.rs disagree");
         row(&format!("page, {name}: {} lines", told.len() / page::LINE), 1, &|calls| {
-            black_box(calls.page(black_box(plan), room.borrow_mut().as_mut_slice(), &mut [0; LENGTH]));
+            black_box(calls.page(black_box(plan), *party, room.borrow_mut().as_mut_slice(), &mut [0; LENGTH]));
         });
     }
 

@@ -2,6 +2,7 @@
 
 pub mod bytes;
 pub mod claims;
+pub mod parties;
 pub mod plans;
 pub mod records;
 pub mod tables;

@@ -122,8 +122,8 @@ fn pair_sequence(r: &mut Random) -> Draft {
 
 fn counters(r: &mut Random) -> Draft {
     match r.below(12) {
-        0..=6 => odometer(r.among(1, 5), r.among(1, 5)),
-        7..=10 => odometer(r.among(2, 12), r.among(2, 12)),
+        0..=5 => odometer(r.among(1, 5), r.among(1, 5)),
+        6..=10 => odometer(r.among(2, 12), r.among(4, 14)),
         _ => odometer(r.among(2, 32), r.among(2, 32)),
     }
 }
@@ -145,7 +145,7 @@ fn permutations(r: &mut Random) -> Draft {
 fn tiny(r: &mut Random) -> Draft {
     let (n, m) = (r.among(1, 3), r.among(1, 2));
     let mut lines = Vec::new();
-    let chance = r.pick(&[15, 30, 50]);
+    let chance = r.pick(&[15, 30, 50, 50, 90]);
     for from in 0..n {
         for code in 0..m {
             for to in 0..n {
@@ -155,7 +155,7 @@ fn tiny(r: &mut Random) -> Draft {
             }
         }
     }
-    let starts = (0..n as u8).filter(|_| r.percent(50)).collect();
+    let starts = (0..n as u8).filter(|_| r.percent(chance.max(50))).collect();
     Draft { n, m, starts, lines }
 }
 
@@ -207,8 +207,8 @@ pub fn widened(r: &mut Random, plan: &Draft) -> Draft {
 /// among 64 stakes and 32 codes, or one of that size with a line for every set.
 pub fn to_page(r: &mut Random, plan: &Draft) -> Draft {
     match r.below(100) {
-        0 => every_set(r),
-        1..=3 => widened(r, plan),
+        0..=1 => every_set(r),
+        2..=3 => widened(r, plan),
         4..=6 => counting(r),
         7..=30 => with_wide_sets(r, plan),
         _ => plan.clone(),

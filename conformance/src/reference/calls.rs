@@ -45,13 +45,13 @@ fn numbers(sets: &[Stakes]) -> Vec<u64> {
 }
 
 fn read(plan: &[u8], counts: &mut [u32]) -> Result<u32, Refusal> {
-    let Read { plan, p, e } = plan::read(plan)?;
+    let Read { n, m, p, e, .. } = plan::read(plan)?;
     lent(counts, COUNTS, "counts")?;
-    put(counts, &[plan.m as u32, p as u32, e as u32]);
-    Ok(plan.n as u32)
+    put(counts, &[m as u32, p as u32, e as u32]);
+    Ok(n as u32)
 }
 
-/// What preparing and the count call have in common behind 1 to 7: 9, then k, or 15 with its evidence.
+/// What preparing and the count call have in common behind 1 to 7 and 16: 9, then k, or 15 with its evidence.
 fn counted(plan: &Plan, letters: &mut [u8], evidence: &mut [u32]) -> Result<usize, Refusal> {
     lent(letters, evidence_length(plan.n), "letters")?;
     lent(evidence, EVIDENCE, "evidence")?;
@@ -64,38 +64,39 @@ fn counted(plan: &Plan, letters: &mut [u8], evidence: &mut [u32]) -> Result<usiz
     refuse(15, "no k")
 }
 
-fn prepare(plan: &[u8], table: &mut [u64], letters: &mut [u8], evidence: &mut [u32]) -> Result<u32, Refusal> {
-    let plan = plan::read(plan)?.plan;
+fn prepare(plan: &[u8], party: u32, table: &mut [u64], letters: &mut [u8], evidence: &mut [u32]) -> Result<u32, Refusal> {
+    let plan = plan::read_for(plan, party)?;
     lent(table, table_length(plan.n, plan.m), "table")?;
     let k = counted(&plan, letters, evidence)?;
     put(table, &table_of(&plan, k));
     Ok(k as u32)
 }
 
-fn look_ahead(plan: &[u8], letters: &mut [u8], evidence: &mut [u32]) -> Result<u32, Refusal> {
-    Ok(counted(&plan::read(plan)?.plan, letters, evidence)? as u32)
+fn look_ahead(plan: &[u8], party: u32, letters: &mut [u8], evidence: &mut [u32]) -> Result<u32, Refusal> {
+    Ok(counted(&plan::read_for(plan, party)?, letters, evidence)? as u32)
 }
 
+/// W-207: "the drawing program's entry" names 0.
 fn count(plan: &[u8]) -> Result<u32, Refusal> {
-    match lookahead::look_ahead(&plan::read(plan)?.plan) {
+    match lookahead::look_ahead(&plan::read_for(plan, 0)?) {
         Some(k) => Ok(k as u32),
         None => refuse(15, "no k"),
     }
 }
 
-fn check(plan: &[u8], claim: &[u32], letters: &[u8]) -> Result<u32, Refusal> {
-    Ok(claim::holds(&plan::read(plan)?.plan, claim, letters) as u32)
+fn check(plan: &[u8], party: u32, claim: &[u32], letters: &[u8]) -> Result<u32, Refusal> {
+    Ok(claim::holds(&plan::read_for(plan, party)?, claim, letters) as u32)
 }
 
 fn write(plan: &[u8], out: &mut [u8]) -> Result<u32, Refusal> {
-    let form = plan::one_form(&plan::read(plan)?.plan);
+    let form = plan::one_form(&plan::read(plan)?);
     lent(out, form.len(), "out")?;
     put(out, &form);
     Ok(form.len() as u32)
 }
 
-fn needs(plan: &[u8], needs: &mut [u16]) -> Result<u32, Refusal> {
-    let numbers = lookahead::needs(&plan::read(plan)?.plan);
+fn needs(plan: &[u8], party: u32, needs: &mut [u16]) -> Result<u32, Refusal> {
+    let numbers = lookahead::needs(&plan::read_for(plan, party)?);
     lent(needs, numbers.len(), "needs")?;
     put(needs, &numbers);
     Ok(numbers.len() as u32)
@@ -103,8 +104,8 @@ fn needs(plan: &[u8], needs: &mut [u16]) -> Result<u32, Refusal> {
 
 /// W-206: "A short buffer is refused with 9." How many bytes a page has may be above 65,535, and so it stands in a slice, as a whole
 /// walk's length does.
-fn page(plan: &[u8], page: &mut [u8], length: &mut [u64]) -> Result<u32, Refusal> {
-    let text = pages::page(&plan::read(plan)?.plan);
+fn page(plan: &[u8], party: u32, page: &mut [u8], length: &mut [u64]) -> Result<u32, Refusal> {
+    let text = pages::page(&plan::read_for(plan, party)?);
     lent(page, text.len(), "page")?;
     lent(length, 1, "length")?;
     put(page, text.as_bytes());

@@ -17,11 +17,10 @@ pub const NOTHING: u32 = 255;
 pub const NONE_BOOKED: u8 = 255;
 
 /// "Eight little-endian 16-bit numbers, in order: edition (1), .. total length": each part begins behind them, "at 16 or later".
-pub const EDITION: usize = 1;
 pub const TOTAL: usize = 7;
 pub const HEADER: usize = 16;
-/// "A line is three bytes".
-pub const LINE: usize = 3;
+/// W-207: "Edition 2 has lines of four bytes: from, code, to, party (0 to 7)."
+pub const LAST_PARTY: u32 = 7;
 
 /// "n, m, k, the starts, then at 4 + stake × m + code the set of stakes led to"
 pub const SETS: usize = 4;
@@ -58,6 +57,15 @@ pub fn evidence_length(n: usize) -> usize {
 /// Refusal 8: "k above n(n-1)/2".
 pub fn bound(n: usize) -> usize {
     n * (n - 1) / 2
+}
+
+/// "A line is three bytes"; W-207: "Edition 2 has lines of four bytes". None for a number that is neither edition's.
+pub fn line_length(edition: usize) -> Option<usize> {
+    match edition {
+        1 => Some(3),
+        2 => Some(4),
+        _ => None,
+    }
 }
 
 /// A number of 16 bits, little-endian.

@@ -73,10 +73,11 @@ pub fn page(plan: &Plan) -> String {
     page
 }
 
-/// What the page program writes: the page of the plan that its input begins with, or the refusal's line alone, as the report has it.
+/// What the page program writes: the page of the plan that its input begins with, for party 0 as in the report, or the refusal's line alone,
+/// as the report has it.
 pub fn page_text(input: &[u8]) -> String {
     match begun_with(input) {
-        Ok((read, _)) => page(&read.plan),
+        Ok((_, plan, _)) => page(&plan),
         Err(number) => refused(number),
     }
 }

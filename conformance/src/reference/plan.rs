@@ -1,8 +1,7 @@
-//! Plan bytes: refusals 1 to 7 in their order, the plan that the bytes mean, and the one form in which a plan is filed.
+//! Plan bytes: refusals 1 to 7 and 16 in their order, the plan that the bytes mean for a party, and the one form in which a plan is filed.
 
-use super::forms::{number, EDITION, HEADER, LINE, MOST_CODES, MOST_LINES, MOST_STAKES, STARTS};
+use super::forms::{line_length, number, HEADER, LAST_PARTY, MOST_CODES, MOST_LINES, MOST_STAKES, STARTS};
 use super::{members, refuse, Refusal, Stakes};
-use std::collections::BTreeSet;
 
 /// A semiautomaton: for each code its lines, as (from, to).
 #[derive(Clone, Debug)]
@@ -16,12 +15,39 @@ pub struct Plan {
 /// A critical set's name: stake and code.
 pub type Name = (u32, u32);
 
-/// What reading answers, and the plan that was read.
+/// A line as it was read: from, code, to and party, which is 0 in edition 1.
+pub type Line = [u8; 4];
+
+/// What reading answers (n, m, p and e), and what else was read.
 #[derive(Debug)]
 pub struct Read {
-    pub plan: Plan,
+    pub edition: usize,
+    pub n: usize,
+    pub m: usize,
     pub p: usize,
     pub e: usize,
+    pub starts: Stakes,
+    pub lines: Vec<Line>,
+}
+
+impl Read {
+    /// W-207, the plan of a party that a call names: the starts, and "that party's lines".
+    pub fn of(&self, party: u32) -> Result<Plan, Refusal> {
+        // "16, a party above 7 .. in the call, or a party other than 0 named for edition 1"
+        if party > LAST_PARTY {
+            return refuse(16, "the party named above 7");
+        }
+        if self.edition == 1 && party != 0 {
+            return refuse(16, "a party other than 0 named for edition 1");
+        }
+        let mut lines = vec![Vec::new(); self.m];
+        for &[from, code, to, of] in &self.lines {
+            if of as u32 == party {
+                lines[code as usize].push((from as usize, to as usize));
+            }
+        }
+        Ok(Plan { n: self.n, m: self.m, starts: self.starts.clone(), lines })
+    }
 }
 
 impl Plan {
@@ -89,6 +115,11 @@ impl Plan {
     }
 }
 
+/// Reading, and then the plan of the party that is named.
+pub fn read_for(bytes: &[u8], party: u32) -> Result<Plan, Refusal> {
+    read(bytes)?.of(party)
+}
+
 /// Reading a plan: n, m, p and e, and what the bytes mean.
 pub fn read(bytes: &[u8]) -> Result<Read, Refusal> {
     // 1: fewer than 16 bytes, or total not the byte count
@@ -100,10 +131,10 @@ pub fn read(bytes: &[u8]) -> Result<Read, Refusal> {
     if total != bytes.len() {
         return refuse(1, "total not the byte count");
     }
-    // 2: edition not 1
-    if edition != EDITION {
+    // W-207: "Refusal 2 now means neither 1 nor 2, and part lengths follow the edition."
+    let Some(width) = line_length(edition) else {
         return refuse(2, "edition");
-    }
+    };
     // 3: a count out of range
     if !(1..=MOST_STAKES).contains(&n) {
         return refuse(3, "n out of range");
@@ -127,11 +158,11 @@ pub fn read(bytes: &[u8]) -> Result<Read, Refusal> {
     if lines_at < HEADER {
         return refuse(4, "lines before 16");
     }
-    if lines_at + LINE * e > total {
+    if lines_at + width * e > total {
         return refuse(4, "lines past the total");
     }
     // Two non-empty parts don't overlap: no byte belongs to both. An empty part has no byte.
-    let part_of_lines = lines_at..lines_at + LINE * e;
+    let part_of_lines = lines_at..lines_at + width * e;
     if (starts_at..starts_at + p).any(|place| part_of_lines.contains(&place)) {
         return refuse(4, "parts overlap");
     }
@@ -147,58 +178,56 @@ pub fn read(bytes: &[u8]) -> Result<Read, Refusal> {
         }
         starts[stake] = true;
     }
-    // 6: a line's number not below its count
-    let triples: Vec<(usize, usize, usize)> = (0..e)
+    // 6: a line's number not below its count; no word of the party, which has no count
+    let lines: Vec<Line> = (0..e)
         .map(|line| {
-            let place = lines_at + LINE * line;
-            (bytes[place] as usize, bytes[place + 1] as usize, bytes[place + 2] as usize)
+            let place = lines_at + width * line;
+            let party = if width == 4 { bytes[place + 3] } else { 0 };
+            [bytes[place], bytes[place + 1], bytes[place + 2], party]
         })
         .collect();
-    for &(from, code, to) in &triples {
-        if from >= n {
+    for &[from, code, to, _] in &lines {
+        if from as usize >= n {
             return refuse(6, "from not below n");
         }
-        if code >= m {
+        if code as usize >= m {
             return refuse(6, "code not below m");
         }
-        if to >= n {
+        if to as usize >= n {
             return refuse(6, "to not below n");
         }
     }
-    // 7: a line twice
-    let different: BTreeSet<_> = triples.iter().collect();
-    if different.len() < triples.len() {
+    // 7: a line twice; W-207: "the same only if all four agree". Each is compared with all before it, its bytes as one number.
+    let whole: Vec<u32> = lines.iter().map(|&line| u32::from_be_bytes(line)).collect();
+    if (0..e).any(|line| whole[..line].contains(&whole[line])) {
         return refuse(7, "a line twice");
     }
-    let mut lines = vec![Vec::new(); m];
-    for &(from, code, to) in &triples {
-        lines[code].push((from, to));
+    // W-207: "16, a party above 7 in a line .. after 7"
+    if lines.iter().any(|&[_, _, _, party]| party as u32 > LAST_PARTY) {
+        return refuse(16, "a line's party above 7");
     }
-    Ok(Read { plan: Plan { n, m, starts, lines }, p, e })
+    Ok(Read { edition, n, m, p, e, starts, lines })
 }
 
-/// W-201, "one form: starts at 16 ascending, lines directly after them ascending by from, code and to, no gaps".
-pub fn one_form(plan: &Plan) -> Vec<u8> {
-    let starts = members(&plan.starts);
-    let mut lines = Vec::new();
-    for code in 0..plan.m {
-        for &(from, to) in &plan.lines[code] {
-            lines.push((from, code, to));
-        }
-    }
+/// W-201, "one form: starts at 16 ascending, lines directly after them ascending by from, code and to, no gaps"; W-207: it "orders by party
+/// last". The edition is the plan's own.
+pub fn one_form(read: &Read) -> Vec<u8> {
+    let width = line_length(read.edition).expect("it was read");
+    let starts = members(&read.starts);
+    let mut lines = read.lines.clone();
     lines.sort();
     let lines_at = HEADER + starts.len();
-    let total = lines_at + LINE * lines.len();
+    let total = lines_at + width * lines.len();
     let mut form = Vec::new();
-    for number in [EDITION, plan.n, plan.m, starts.len(), lines.len(), HEADER, lines_at, total] {
+    for number in [read.edition, read.n, read.m, starts.len(), lines.len(), HEADER, lines_at, total] {
         form.push((number % 256) as u8);
         form.push((number / 256) as u8);
     }
     for stake in starts {
         form.push(stake as u8);
     }
-    for (from, code, to) in lines {
-        form.extend([from as u8, code as u8, to as u8]);
+    for line in lines {
+        form.extend(&line[..width]);
     }
     form
 }

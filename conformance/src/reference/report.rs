@@ -2,7 +2,7 @@
 
 use super::forms::{number, HEADER, MOST_LEGS, TOTAL};
 use super::lookahead::look_ahead;
-use super::plan::{read, Read};
+use super::plan::{read, Plan, Read};
 use super::walk::{possible, step};
 use super::{group, members, size};
 
@@ -12,8 +12,9 @@ pub fn refused(number: u32) -> String {
     format!("refused {number} {name}\n")
 }
 
-/// The plan that a program's input begins with, and the bytes behind it; or the number of the refusal.
-pub fn begun_with(input: &[u8]) -> Result<(Read, &[u8]), u32> {
+/// What was read of the plan that a program's input begins with, the plan of the party that the programs name, and the bytes behind it; or
+/// the number of the refusal. W-207: "The report, which treats 16 as it does 7, .. name 0."
+pub fn begun_with(input: &[u8]) -> Result<(Read, Plan, &[u8]), u32> {
     // refusal 1 here: fewer than 16 bytes, a total below 16, or fewer bytes than the total
     if input.len() < HEADER {
         return Err(1);
@@ -22,17 +23,18 @@ pub fn begun_with(input: &[u8]) -> Result<(Read, &[u8]), u32> {
     if total < HEADER || input.len() < total {
         return Err(1);
     }
-    let (plan, behind) = input.split_at(total);
-    let read = read(plan).map_err(|refusal| refusal.number)?;
-    Ok((read, behind))
+    let (bytes, behind) = input.split_at(total);
+    let read = read(bytes).map_err(|refusal| refusal.number)?;
+    let plan = read.of(0).map_err(|refusal| refusal.number)?;
+    Ok((read, plan, behind))
 }
 
 pub fn report(input: &[u8]) -> String {
-    let (Read { plan, p, e }, legs) = match begun_with(input) {
+    let (Read { n, m, p, e, .. }, plan, legs) = match begun_with(input) {
         Ok(begun) => begun,
         Err(number) => return refused(number),
     };
-    let mut text = format!("stakes {} codes {} starts {p} lines {e}\n", plan.n, plan.m);
+    let mut text = format!("stakes {n} codes {m} starts {p} lines {e}\n");
     let Some(k) = look_ahead(&plan) else {
         return text + &refused(15);
     };

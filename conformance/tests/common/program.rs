@@ -1,7 +1,7 @@
 //! The programs, each by its name (GAWHERINO_REPORT, else ../target/bin/report; GAWHERINO_PAGE, else ../target/bin/page): what one writes
 //! on standard output against what the reference has for it, whole and cut into reads; and inputs.
 
-use conformance::families::{draft, Draft};
+use conformance::families::{draft, parted, AnyLine, Draft, PartyLine};
 use conformance::forms::plan::{number, HEADER, TOTAL};
 use conformance::lent::hex;
 use conformance::reference::page::page_text;
@@ -152,7 +152,7 @@ pub fn pieces(input: &[u8], mut size: impl FnMut() -> usize) -> Vec<Vec<u8>> {
     pieces
 }
 
-pub fn with_legs(plan: &Draft, legs: &[u8]) -> Vec<u8> {
+pub fn with_legs<L: AnyLine>(plan: &Draft<L>, legs: &[u8]) -> Vec<u8> {
     [plan.bytes().as_slice(), legs].concat()
 }
 
@@ -165,15 +165,30 @@ pub fn ring() -> Draft {
     draft(1, 2, &[0], &[(0, 0, 0)])
 }
 
-/// Inputs that both programs refuse with 1 to 7, each with the number: plan A's bytes cut short, or with one of them changed.
+/// Plan A as party 0's in edition 2, with plan B's lines for party 3 and for all others the line that makes A unpredictable.
+pub fn plan_a_among_others() -> Draft<PartyLine> {
+    let own = [(0, 0, 1, 0), (1, 0, 1, 0), (1, 0, 2, 0)];
+    let of_b = [(0, 0, 0, 3), (0, 0, 1, 3), (1, 0, 1, 3)];
+    let others: Vec<PartyLine> = [1, 2, 4, 5, 6, 7].map(|party| (2, 0, 2, party)).to_vec();
+    parted(3, 1, &[0], &[&of_b[..], &own, &others].concat())
+}
+
+/// Inputs that both programs refuse with 1 to 7 or 16, each with the number: plan A's bytes cut short, or with one of them changed, and
+/// those of edition 2 with a party changed or a line twice.
 pub fn refused_inputs() -> Vec<(u32, Vec<u8>)> {
     let a = plan_a().bytes();
     let mut inputs: Vec<(u32, Vec<u8>)> = [0, 1, 15, 16, 25].map(|end| (1, a[..end].to_vec())).into();
     // a total below 16, fewer bytes than the total, and one for each of 2 to 7
-    for (place, value, number) in [(14, 15, 1), (14, 0x1B, 1), (0, 2, 2), (2, 65, 3), (10, 15, 4), (16, 3, 5), (17, 3, 6), (25, 1, 7)] {
-        let mut bytes = a.clone();
-        bytes[place] = value;
-        inputs.push((number, bytes));
+    let of_edition_1 = [(14, 15, 1), (14, 0x1B, 1), (0, 0, 2), (0, 3, 2), (2, 65, 3), (10, 15, 4), (16, 3, 5), (17, 3, 6), (25, 1, 7)];
+    // of edition 1 its lines are three bytes each, and the second begins with the first one's party, which is no stake
+    let of_edition_2 = [(0, 3, 2), (0, 1, 6), (16, 3, 5), (19, 3, 6), (23, 0, 7), (20, 8, 16), (40, 9, 16), (64, 255, 16), (64, 8, 16)];
+    let several = plan_a_among_others().bytes();
+    for (bytes, changes) in [(&a, &of_edition_1), (&several, &of_edition_2)] {
+        for &(place, value, number) in changes {
+            let mut bytes = bytes.clone();
+            bytes[place] = value;
+            inputs.push((number, bytes));
+        }
     }
     inputs
 }

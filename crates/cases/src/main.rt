@@ -29,7 +29,7 @@ fn say_set(set: u64) {
 
 // What the check says of evidence.
 fn say_checked(plan: &[u8], e: Evidence, letters: &[u8]) {
-    let checked = claim::check(plan, e, letters);
+    let checked = claim::check(plan, 0, e, letters);
     match checked {
         Checked::Yes => say(b" evidence yes"),
         Checked::No => say(b" evidence no"),
@@ -41,7 +41,7 @@ fn say_checked(plan: &[u8], e: Evidence, letters: &[u8]) {
 fn say_prepared(name: &[u8], plan: &[u8], table: &mut [u64]) {
     let mut letters = [0u8; 4096];
     say(name);
-    let prepared = prepare::prepare(plan, table, &mut letters);
+    let prepared = prepare::prepare(plan, 0, table, &mut letters);
     match prepared {
         Prepared::Ready(k) => say_number(b" look-ahead", k as u64),
         Prepared::Refused(r) => say_number(b" refused", r as u64),

@@ -83,12 +83,12 @@ fn is_true(sets: &[u64], n: usize, m: usize, starts: u64, claim: Evidence, lette
         & has_lasso(sets, n, m, t, &letters[..stem], &letters[stem..end])
 }
 
-// The reader's refusal; yes if and only if the claim is true of the plan; otherwise no.
-pub fn check(plan: &[u8], claim: Evidence, letters: &[u8]) -> Checked
-    ensures { λ r. ⌜ Checks (asked (now (plan .entry))) claim (now (letters .entry)) r ⌝ }
+// The reader's refusal; yes if and only if the claim is true of the plan for the party; otherwise no.
+pub fn check(plan: &[u8], party: u32, claim: Evidence, letters: &[u8]) -> Checked
+    ensures { λ r. ⌜ Checks (asked (now (plan .entry)) party) claim (now (letters .entry)) r ⌝ }
 {
     let mut sets = [0u64; semiautomata::MAX_SETS];
-    let loaded = plan::load(plan, &mut sets);
+    let loaded = plan::load(plan, party, &mut sets);
     match loaded {
         Loaded::Refused(r) => Checked::Refused(r),
         Loaded::Plan {

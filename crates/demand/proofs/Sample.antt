@@ -10,7 +10,7 @@ use Rattle.semiautomata.specs.Predictability.{Lookahead}
 use Rattle.semiautomata.specs.Walks.{spells, step, possible, walkable}
 use Rattle.streaming.specs.PlainWalk.{limit}
 use Rattle.streaming.specs.Streaming.{base, sound, soleAt, settle}
-use Rattle.plan.specs.Bytes.{meaning, planChecks, asked}
+use Rattle.plan.specs.Bytes.{meaning, planChecks, askedChecks, asked}
 use Rattle.plan.proofs.Refusals.{asked-proper}
 use Rattle.table.specs.Table.{unfit, contents, laidOut}
 use Rattle.plan.specs.Asked.{refusalWith}
@@ -28,21 +28,21 @@ use Rattle.samples.proofs.Plans.{samples-hold}
 abbrev old : List ℕ
 old = 9 ∷ 9 ∷ 9 ∷ 9 ∷ 9 ∷ 9 ∷ 9 ∷ 9 ∷ []
 
-laid : tableA ≡ laidOut (contents (meaning planA) 1) old
+laid : tableA ≡ laidOut (contents (meaning planA 0) 1) old
 unfolding flatMap setOf any
 laid = refl
 
-no-refusal : prepareRefusal (asked planA) 8 9 ≡ 0
-unfolding refusalWith planChecks any
+no-refusal : prepareRefusal (asked planA 0) 8 9 ≡ 0
+unfolding refusalWith planChecks askedChecks any
 no-refusal = refl
 
 abbrev letters : List ℕ
 letters = 7 ∷ 7 ∷ 7 ∷ 7 ∷ 7 ∷ 7 ∷ 7 ∷ 7 ∷ 7 ∷ []
 
-predicts : Lookahead (meaning planA) 1
+predicts : Lookahead (meaning planA 0) 1
 predicts = samples-hold .0 .ahead
 
-made : Made (asked planA) 1 tableA
+made : Made (asked planA 0) 1 tableA
 made = record {
   old = old;
   old-letters = letters;
@@ -98,6 +98,6 @@ pub sample : OnPlanA
 sample = record {
   made = made;
   walk = walk;
-  demand3 = walked-right (asked planA) (asked-proper planA) 1 tableA made offered Nothing answersOnA walk (λ r e. let z : _≡_ {A = ℕ} 0 1 =
+  demand3 = walked-right (asked planA 0) (asked-proper planA 0) 1 tableA made offered Nothing answersOnA walk (λ r e. let z : _≡_ {A = ℕ} 0 1 =
       cc in absurd (omega arith));
 }

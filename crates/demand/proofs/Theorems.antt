@@ -23,7 +23,7 @@ use Rattle.streaming.proofs.Demand3 as over-meaning
 use Rattle.semiautomata.proofs.Bound.{lookahead-bound, lookahead-bound-one}
 use Rattle.plan.specs.Asked.{Asked, Proper}
 use Rattle.plan.specs.Bytes.{meaning, asked}
-use Rattle.plan.proofs.Refusals.{well-formed-within, asked-proper}
+use Rattle.plan.proofs.Refusals.{asked-proper}
 use Rattle.prepare.proofs.Theorems.{table-read, theorems as preparing-theorems}
 use Rattle.table.specs.Table.{lookaheadOf, tableMeaning, unfit, contents}
 use Rattle.table.proofs.Fitness.{fitting, lookahead-le}
@@ -164,14 +164,15 @@ pub met : TheoremsMet
 met = theorems
 
 pub demand : DemandMet
-demand plan w =
-    let p = preparing-theorems (asked plan) (asked-proper plan) in
-    let W = well-formed-within plan w in
+demand plan party w =
+    let P = asked-proper plan party in
+    let p = preparing-theorems (asked plan party) P in
+    let W = P .sized w .within in
     record {
       counted = p .counted-right w;
       prepared = p .prepared-right w;
       evidence = p .evidence-passes;
-      bound = lookahead-bound (meaning plan) W;
-      bound-one-letter = λ one. lookahead-bound-one (meaning plan) W one;
-      walked-right = walked-right (asked plan) (asked-proper plan);
+      bound = lookahead-bound (meaning plan party) W;
+      bound-one-letter = λ one. lookahead-bound-one (meaning plan party) W one;
+      walked-right = walked-right (asked plan party) P;
     }

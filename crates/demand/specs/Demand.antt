@@ -14,8 +14,8 @@ use Rattle.semiautomata.specs.Predictability.{Lookahead}
 use Rattle.streaming.specs.Calls.{refused}
 use Rattle.streaming.specs.Demand3.{Only11to13, Demand3}
 use Rattle.streaming.specs.Streaming.{base}
-use Rattle.plan.specs.Asked.{Asked, Proper}
-use Rattle.plan.specs.Bytes.{asked, WellFormed}
+use Rattle.plan.specs.Asked.{Asked, Passes, Proper}
+use Rattle.plan.specs.Bytes.{asked}
 use Rattle.table.specs.Table.{setsFrom}
 use Rattle.lookahead.specs.declared.Evidence.{Evidence}
 use Rattle.claim.specs.declared.Checked.{Checked}
@@ -110,6 +110,6 @@ pub record Demand (A : Asked) : Type 0 where
   pub walked-right : (k : ℕ) (table : List ℕ) → Made A k table → (offered : List ℕ) (first : Answer) (answers : List Answer)
       → Walk table k offered first answers → Taken first → Demand3 (A .means) k offered (map said (first ∷ answers))
 
--- It holds of every well-formed plan.
+-- It holds of every plan and every party that may be asked for (W-207): none of 1 to 7 and 16 applies. Of edition 1 that is party 0.
 abbrev pub DemandMet : Type 0
-DemandMet = (plan : List ℕ) → WellFormed plan → Demand (asked plan)
+DemandMet = (plan : List ℕ) (party : ℕ) → Passes (asked plan party) → Demand (asked plan party)

@@ -10,8 +10,9 @@ use lib.ListN.{length, getD}
 use Rattle.semiautomata.specs.Sizes.{endless, unmeasured}
 use Rattle.streaming.specs.Calls as reply
 use Rattle.refusals.specs.Outcomes.{refused, answered}
-use Rattle.plan.specs.Bytes.{headerOf, asked}
-use Rattle.samples.specs.Plans.{Sample, bytes, AsSaid, A, B, C, D, E, F, G, H, C′, B′, B″, D′}
+use Rattle.plan.specs.Asked.{Asked}
+use Rattle.plan.specs.Bytes.{asked}
+use Rattle.samples.specs.Plans.{Sample, bytes, AsSaid, A, B, C, D, E, F, G, H, C′, B′, B″, D′, T₀, T₁, T₂, S₀, S₇}
 use Rattle.table.specs.Table.{setsFrom}
 use Rattle.lookahead.specs.declared.Evidence.{Evidence}
 use Rattle.claim.specs.declared.Checked.{Checked}
@@ -63,43 +64,48 @@ abbrev pub drawn : Option ℕ → ℕ
 drawn (some k) = k
 drawn none = 65551
 
--- What is said beside is so of the calls, those on a table being lent one that preparing made from the plan.
-abbrev pub IsSo : List ℕ → Saying → Type 0
-IsSo plan (walked word sets) =
-    (k : ℕ) (table old out : List ℕ) (a : Walked) → Made (asked plan) k table → length word < length old → Walks table word a old out
+-- What is said beside is so of the calls, those on a table being lent one that preparing made from what is asked.
+abbrev pub IsSo : Asked → Saying → Type 0
+IsSo A (walked word sets) =
+    (k : ℕ) (table old out : List ℕ) (a : Walked) → Made A k table → length word < length old → Walks table word a old out
     → (a ≡ Upto (length word)) × ((i : ℕ) → i ≤ length word → getD out i 0 ≡ getD sets i 0)
-IsSo plan (judged q a word v) = (k : ℕ) (table : List ℕ) (r : Judged) → Made (asked plan) k table → Judges table q a word r → r ≡ Told v
-IsSo plan unopened =
-    (k : ℕ) (table bytes left : List ℕ) (a : Answer) → Made (asked plan) k table → heldFrom + k ≤ length bytes → Opens table bytes a left
+IsSo A (judged q a word v) = (k : ℕ) (table : List ℕ) (r : Judged) → Made A k table → Judges table q a word r → r ≡ Told v
+IsSo A unopened =
+    (k : ℕ) (table bytes left : List ℕ) (a : Answer) → Made A k table → heldFrom + k ≤ length bytes → Opens table bytes a left
     → said a ≡ reply.refused 13
-IsSo plan at-bound = (k : ℕ) (table : List ℕ) → Made (asked plan) k table → k ≡ headerOf plan .n * (headerOf plan .n - 1) / 2
-IsSo plan (claimed e letters) = (r : Checked) → Checks (asked plan) e letters r → r ≡ Yes
-IsSo plan (uncounted q a) =
-    (e : Evidence) (letters : List ℕ) (r : Checked) → e .state ≡ q → e .letter ≡ a → Checks (asked plan) e letters r → r ≡ No
-IsSo plan (forged bytes letter) =
-    (k : ℕ) (table left : List ℕ) (a : Answer) → Made (asked plan) k table → Feeds table bytes letter a left → said a ≡ reply.refused 14
-IsSo plan (needed numbers) =
-    (a : Needs) (old needs : List ℕ) → length numbers ≤ length old → NeedsOf (asked plan) a old needs
+IsSo A at-bound = (k : ℕ) (table : List ℕ) → Made A k table → k ≡ A .means .n * (A .means .n - 1) / 2
+IsSo A (claimed e letters) = (r : Checked) → Checks A e letters r → r ≡ Yes
+IsSo A (uncounted q a) =
+    (e : Evidence) (letters : List ℕ) (r : Checked) → e .state ≡ q → e .letter ≡ a → Checks A e letters r → r ≡ No
+IsSo A (forged bytes letter) =
+    (k : ℕ) (table left : List ℕ) (a : Answer) → Made A k table → Feeds table bytes letter a left → said a ≡ reply.refused 14
+IsSo A (needed numbers) =
+    (a : Needs) (old needs : List ℕ) → length numbers ≤ length old → NeedsOf A a old needs
     → (outcomeOfNeeds a ≡ answered (length numbers)) × (needs ≡ atFront numbers old)
 
-abbrev pub AllSo : List ℕ → List Saying → Type 0
-AllSo plan [] = Unit {0}
-AllSo plan (c ∷ cs) = IsSo plan c × AllSo plan cs
+abbrev pub AllSo : Asked → List Saying → Type 0
+AllSo A [] = Unit {0}
+AllSo A (c ∷ cs) = IsSo A c × AllSo A cs
 
--- What a row says of its plan's bytes: the calls answer its look-ahead, or 15; what else is said is so.
-pub record RowHolds (plan : List ℕ) (lookahead : Option ℕ) (sayings : List Saying) : Type 0 where
-  pub counted : (a : Prepared) (old letters : List ℕ) → headerOf plan .n * headerOf plan .n ≤ length old
-      → CountsTo (asked plan) a old letters
+-- What a row says of what is asked of its plan: the calls answer its look-ahead, or 15, the drawing program's entry where the party is 0,
+-- which it names; what else is said is so.
+pub record RowHolds (A : Asked) (party : ℕ) (lookahead : Option ℕ) (sayings : List Saying) : Type 0 where
+  pub counted : (a : Prepared) (old letters : List ℕ) → A .means .n * A .means .n ≤ length old
+      → CountsTo A a old letters
       → Replied lookahead a
-  pub prepared : (a : Prepared) (old table old′ letters : List ℕ) → setsFrom + headerOf plan .n * headerOf plan .m ≤ length old
-      → headerOf plan .n * headerOf plan .n ≤ length old′ → Prepares (asked plan) a old table old′ letters → Replied lookahead a
-  pub drew : (x : ℕ) → Draws (asked plan) x → x ≡ drawn lookahead
-  pub so : AllSo plan sayings
+  pub prepared : (a : Prepared) (old table old′ letters : List ℕ) → setsFrom + A .means .n * A .means .m ≤ length old
+      → A .means .n * A .means .n ≤ length old′ → Prepares A a old table old′ letters → Replied lookahead a
+  pub drew : party ≡ 0 → (x : ℕ) → Draws A x → x ≡ drawn lookahead
+  pub so : AllSo A sayings
+
+-- What is asked of a sample: its plan, for its party.
+abbrev pub askedOf : Sample → Asked
+askedOf s = asked (bytes s) (s .party)
 
 -- The sample is as said, and the row holds.
 abbrev pub AllRows : List Row → Type 0
 AllRows [] = Unit {0}
-AllRows (r ∷ rs) = AsSaid (r .sample) × RowHolds (bytes (r .sample)) (r .sample .lookahead) (r .sayings) × AllRows rs
+AllRows (r ∷ rs) = AsSaid (r .sample) × RowHolds (askedOf (r .sample)) (r .sample .party) (r .sample .lookahead) (r .sayings) × AllRows rs
 
 abbrev pub row : Sample → List Saying → Row
 row sample sayings = record { sample = sample; sayings = sayings }
@@ -110,6 +116,16 @@ verdict alive least stuck = record { survivors = alive; minimal = least; nonsele
 abbrev pub evidence : ℕ → ℕ → ℕ → ℕ → ℕ → ℕ → Evidence
 evidence state letter low high stem cycle =
     record { state = state; letter = letter; low = low; high = high; stem = stem; cycle = cycle }
+
+-- Of edition 2 (W-207): one plan asked for three parties, and one for two.
+abbrev pub partyRows : List Row
+partyRows =
+    row T₀ (walked (0 ∷ 0 ∷ 0 ∷ []) (1 ∷ 2 ∷ 2 ∷ 6 ∷ []) ∷ needed (0 ∷ 0 ∷ 1 ∷ unmeasured ∷ []) ∷ [])
+    ∷ row T₁ (claimed (evidence 0 0 0 1 0 1) (0 ∷ []) ∷ needed (0 ∷ endless ∷ 0 ∷ unmeasured ∷ []) ∷ [])
+    ∷ row T₂ (walked [] (1 ∷ []) ∷ needed (0 ∷ unmeasured ∷ unmeasured ∷ unmeasured ∷ []) ∷ [])
+    ∷ row S₀ (walked [] (3 ∷ []) ∷ needed (1 ∷ 0 ∷ unmeasured ∷ []) ∷ [])
+    ∷ row S₇ (needed (endless ∷ 0 ∷ 0 ∷ []) ∷ [])
+    ∷ []
 
 -- Of each sample whose look-ahead is 1 or more a walk is shown with two or more states at a position that exactly k - 1 letters follow
 -- (W-203): of A at position 3, of the others at 0.
@@ -151,4 +167,4 @@ rows =
     ∷ needed (0 ∷ unmeasured ∷ unmeasured ∷ unmeasured ∷ unmeasured ∷ [])
     ∷ []
     )
-    ∷ []
+    ∷ partyRows

@@ -29,8 +29,8 @@ repliesOnA = nothing ∷ resolved 0 0 ∷ refused 12 ∷ resolved 1 1 ∷ resolv
 
 pub record OnPlanA : Type 0 where
   -- preparing's promise allows this table
-  pub made : Made (asked planA) 1 tableA
+  pub made : Made (asked planA 0) 1 tableA
   -- the promises of opening and of a leg allow these answersOnA
   pub walk : Walk tableA 1 offered Nothing answersOnA
   -- demand 3 of them
-  pub demand3 : Demand3 (meaning planA) 1 offered repliesOnA
+  pub demand3 : Demand3 (meaning planA 0) 1 offered repliesOnA

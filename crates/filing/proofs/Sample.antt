@@ -1,4 +1,4 @@
--- The sample's form, computed.
+-- The samples' forms, computed.
 -- Assumes nothing.
 use mathlib.Core.Path.{refl}
 use Rattle.bitset.specs.Sets.{any}
@@ -8,4 +8,4 @@ use Rattle.filing.specs.Sample.{SampleFiled}
 
 pub sample-filed : SampleFiled
 unfolding filed each any
-sample-filed = refl
+sample-filed = (refl, refl)

@@ -8,9 +8,9 @@ use borrow.Author.Tests.{le-ltb}
 use Rattle.slices.specs.Copying.{atFront}
 use Rattle.plan.specs.declared.Header.{Header}
 use Rattle.plan.specs.Plan.{Plan}
-use Rattle.plan.specs.Bytes.{parsed, asked, WellFormed, planCounts}
+use Rattle.plan.specs.Bytes.{parsed, unnamed, WellFormed, planCounts}
 use Rattle.plan.proofs.Asked.{refused-passing}
-use Rattle.plan.proofs.Refusals.{asked-proper}
+use Rattle.plan.proofs.Refusals.{unnamed-proper}
 use Rattle.plan.proofs.Readings.{loaded-counts}
 use Rattle.filing.specs.declared.Writing.{Writing}
 use Rattle.filing.specs.declared.Writing.the-variants.{Bytes, Refused}
@@ -24,6 +24,9 @@ same-both : {P Q R : Plan} → SameParts P Q → SameParts P R → SameParts Q R
 same-both q r = record { starts = λ s. sym (q .starts s) ∙ r .starts s; lines = λ l. sym (q .lines l) ∙ r .lines l }
 
 module _ {plan bytes : List ℕ} (f : FormOf plan bytes) where
+  edition-kept : parsed bytes .edition ≡ parsed plan .edition
+  edition-kept = ap (λ (h : Header). h .edition) (f .header)
+
   n-kept : parsed bytes .n ≡ parsed plan .n
   n-kept = ap (λ (h : Header). h .n) (f .header)
 
@@ -35,7 +38,7 @@ module _ {plan bytes : List ℕ} (f : FormOf plan bytes) where
 
   -- the form of the form
   filed-again : filed bytes ≡ bytes
-  filed-again = filed-same bytes plan n-kept m-kept (f .parts) ∙ sym (f .is)
+  filed-again = filed-same bytes plan edition-kept n-kept m-kept (f .parts) ∙ sym (f .is)
 
   written-again : (a : Writing) (old out : List ℕ) → Writes bytes a old out → length bytes ≤ length old
       → (a ≡ Bytes (length bytes)) × (out ≡ atFront bytes old)
@@ -43,7 +46,7 @@ module _ {plan bytes : List ℕ} (f : FormOf plan bytes) where
       (ap Bytes (c ∙ ap length filed-again), o ∙ ap (λ (b : List ℕ). atFront b old) filed-again)
   written-again (Refused r) old out (e, n, _) h =
       let clear : writeRefusal bytes (length old) ≡ 0 =
-      refused-passing (asked bytes) (asked-proper bytes) form-passes (shortFiled bytes (length old))
+      refused-passing (unnamed bytes) (unnamed-proper bytes) form-passes (shortFiled bytes (length old))
       ∙ rw (filed-again, le-ltb (length old) (length bytes) h) in
       absurd (n (e ∙ clear))
 
@@ -59,11 +62,12 @@ theorems = record {
       let f = written-form plan bytes w in
       let f′ = written-form plan′ bytes′ w′ in (
         λ e. (
+          sym (edition-kept f) ∙ ap (λ (b : List ℕ). parsed b .edition) e ∙ edition-kept f′,
           sym (n-kept f) ∙ ap (λ (b : List ℕ). parsed b .n) e ∙ n-kept f′,
           sym (m-kept f) ∙ ap (λ (b : List ℕ). parsed b .m) e ∙ m-kept f′,
           same-both (f .parts) (rw e (f′ .parts)),
         ),
-        λ (n, m, same). f .is ∙ filed-same plan plan′ n m same ∙ sym (f′ .is),
+        λ (edition, n, m, same). f .is ∙ filed-same plan plan′ edition n m same ∙ sym (f′ .is),
       );
   again = λ plan bytes w. written-again (written-form plan bytes w);
 }

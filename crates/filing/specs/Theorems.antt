@@ -1,4 +1,5 @@
--- What follows of writing (document 02, W-201), of any reply and memory that meet its promise; proofs/Theorems.antt has the proofs.
+-- What follows of writing (document 02, W-201 and W-207), of any reply and memory that meet its promise; proofs/Theorems.antt has the
+-- proofs.
 -- Assumes nothing.
 use Prim.Native.Nat.{ℕ, _+_, _*_, _≤_, _<_}
 use mathlib.Core.Path.{_≡_}
@@ -34,13 +35,16 @@ headerInOrder edition c = record {
   e = c .e;
   starts = 16;
   lines = 16 + c .p;
-  total = 16 + c .p + lineWidth * c .e;
+  total = 16 + c .p + lineWidth edition * c .e;
 }
 
--- One line stands before another: by from, then letter (code), then to.
+-- One line stands before another: by from, then letter (code), then to, then party.
 abbrev pub Before : Line → Line → Type 0
 Before l k =
-    (l .from < k .from) ⊎ ((l .from ≡ k .from) × ((l .letter < k .letter) ⊎ ((l .letter ≡ k .letter) × (l .to < k .to))))
+    (l .from < k .from)
+    ⊎ ((l .from ≡ k .from) × ((l .letter < k .letter)
+    ⊎ ((l .letter ≡ k .letter) × ((l .to < k .to)
+    ⊎ ((l .to ≡ k .to) × (l .party < k .party))))))
 
 -- Starts and lines ascend, so that each stands there once.
 pub record Ascends (P : Plan) : Type 0 where
@@ -53,10 +57,10 @@ pub record SameParts (P Q : Plan) : Type 0 where
   pub lines : (l : Line) → isLine P l ≡ isLine Q l
 
 pub record Theorems : Type 0 where
-  -- Reading what was written answers the plan's n, m, p and e, so that none of 1 to 7 applies;
+  -- Reading what was written answers the plan's n, m, p and e, so that none of 1 to 7 and 16 applies;
   pub reads : (plan bytes : List ℕ) → WrittenFor plan bytes → reading bytes ≡ answered (planCounts (headerOf plan))
-  -- it means what the plan means;
-  pub means : (plan bytes : List ℕ) → WrittenFor plan bytes → meaning bytes ≡ meaning plan
+  -- it means what the plan means, for every party;
+  pub means : (plan bytes : List ℕ) → WrittenFor plan bytes → (party : ℕ) → meaning bytes party ≡ meaning plan party
   -- it has the plan's starts and lines and no others,
   pub parts : (plan bytes : List ℕ) → WrittenFor plan bytes → SameParts (parsed bytes) (parsed plan)
   -- each once and in order,
@@ -66,10 +70,11 @@ pub record Theorems : Type 0 where
       → (headerOf bytes ≡ headerInOrder (headerOf plan .edition) (planCounts (headerOf plan))) × (length bytes ≡ headerOf bytes .total)
   -- It has no more bytes than the form of the largest plan.
   pub most : (plan bytes : List ℕ) → WrittenFor plan bytes → length bytes ≤ maxWritten
-  -- Equal n, m, starts and lines give equal bytes, different ones different bytes.
+  -- Within one edition equal n, m, starts and lines give equal bytes, different ones different bytes; so do different editions.
   pub equal : (plan bytes plan′ bytes′ : List ℕ) → WrittenFor plan bytes → WrittenFor plan′ bytes′
       → (bytes ≡ bytes′)
-      ↔ ((parsed plan .n ≡ parsed plan′ .n) × (parsed plan .m ≡ parsed plan′ .m) × SameParts (parsed plan) (parsed plan′))
+      ↔ ((parsed plan .edition ≡ parsed plan′ .edition) × (parsed plan .n ≡ parsed plan′ .n) × (parsed plan .m ≡ parsed plan′ .m)
+      × SameParts (parsed plan) (parsed plan′))
   -- Writing what was written gives the same bytes, wherever there is room for them.
   pub again : (plan bytes : List ℕ) → WrittenFor plan bytes → (a : Writing) (old out : List ℕ) → Writes bytes a old out
       → length bytes ≤ length old → (a ≡ Bytes (length bytes)) × (out ≡ atFront bytes old)

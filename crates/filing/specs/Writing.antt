@@ -1,4 +1,4 @@
--- Writing a plan's form (document 02, W-201): its refusals in order, and what it answers and writes.
+-- Writing a plan's form (document 02, W-201 and W-207): its refusals in order, and what it answers and writes.
 -- Assumes nothing.
 use Prim.Native.Nat.{ℕ}
 use mathlib.Core.Bool.{Bool}
@@ -9,7 +9,7 @@ use lib.ListN.{length}
 use Rattle.refusals.specs.Outcomes.{Outcome, refused, answered, Gives}
 use Rattle.slices.specs.Copying.{atFront}
 use Rattle.plan.specs.Asked.{refusalWith}
-use Rattle.plan.specs.Bytes.{asked}
+use Rattle.plan.specs.Bytes.{unnamed}
 use Rattle.filing.specs.declared.Writing.{Writing}
 use Rattle.filing.specs.declared.Writing.the-variants.{Bytes, Refused}
 use Rattle.filing.specs.Filed.{filed}
@@ -18,9 +18,9 @@ use Rattle.filing.specs.Filed.{filed}
 abbrev pub shortFiled : List ℕ → ℕ → Bool
 shortFiled plan size = ltb size (length (filed plan))
 
--- The first of 1 to 7 and 9 that applies with so many bytes lent, 0 if none does.
+-- The first of 1 to 7, 16 and 9, in this order, that applies with so many bytes lent, 0 if none does. Writing names no party.
 abbrev pub writeRefusal : List ℕ → ℕ → ℕ
-writeRefusal plan size = refusalWith (asked plan) (shortFiled plan size)
+writeRefusal plan size = refusalWith (unnamed plan) (shortFiled plan size)
 
 -- What writing answers: how many bytes are written.
 abbrev pub outcomeOfWriting : Writing → Outcome ℕ

@@ -23,39 +23,45 @@ pub extern "C" fn gawherino_read(plan: &[u8], counts: &mut [u32]) -> u32
 #[no_mangle]
 pub extern "C" fn gawherino_prepare(
     plan: &[u8],
+    party: u32,
     table: &mut [u64],
     letters: &mut [u8],
     evidence: &mut [u32],
 ) -> u32
-    ensures { λ r. ⌜ PassesPrepared (asked (now (plan .entry))) r (now (table .entry)) (now (table .exit)) (now (letters .entry))
+    ensures { λ r. ⌜ PassesPrepared (asked (now (plan .entry)) party) r (now (table .entry)) (now (table .exit)) (now (letters .entry))
         (now (letters .exit)) (now (evidence .entry)) (now (evidence .exit)) ⌝ }
 {
-    plan_calls::prepare(plan, table, letters, evidence)
+    plan_calls::prepare(plan, party, table, letters, evidence)
 }
 
 // The count call, which answers as preparing does.
 #[no_mangle]
-pub extern "C" fn gawherino_look_ahead(plan: &[u8], letters: &mut [u8], evidence: &mut [u32]) -> u32
-    ensures { λ r. ⌜ PassesCount (asked (now (plan .entry))) r (now (letters .entry)) (now (letters .exit)) (now (evidence .entry))
+pub extern "C" fn gawherino_look_ahead(
+    plan: &[u8],
+    party: u32,
+    letters: &mut [u8],
+    evidence: &mut [u32],
+) -> u32
+    ensures { λ r. ⌜ PassesCount (asked (now (plan .entry)) party) r (now (letters .entry)) (now (letters .exit)) (now (evidence .entry))
         (now (evidence .exit)) ⌝ }
 {
-    plan_calls::look_ahead(plan, letters, evidence)
+    plan_calls::look_ahead(plan, party, letters, evidence)
 }
 
-// The drawing program's entry: the look-ahead, or the refusal, with no lent buffer.
+// The drawing program's entry: the look-ahead for party 0, or the refusal, with no lent buffer.
 #[no_mangle]
 pub extern "C" fn gawherino_count(plan: &[u8]) -> u32
-    ensures { λ r. ⌜ Draws (asked (now (plan .entry))) r ⌝ }
+    ensures { λ r. ⌜ Draws (asked (now (plan .entry)) 0) r ⌝ }
 {
     plan_calls::count(plan)
 }
 
 // The check of a claim: 1 for yes, 0 for no.
 #[no_mangle]
-pub extern "C" fn gawherino_check(plan: &[u8], claim: &[u32], letters: &[u8]) -> u32
-    ensures { λ r. ⌜ PassesCheck (asked (now (plan .entry))) (now (claim .entry)) (now (letters .entry)) r ⌝ }
+pub extern "C" fn gawherino_check(plan: &[u8], party: u32, claim: &[u32], letters: &[u8]) -> u32
+    ensures { λ r. ⌜ PassesCheck (asked (now (plan .entry)) party) (now (claim .entry)) (now (letters .entry)) r ⌝ }
 {
-    plan_calls::check(plan, claim, letters)
+    plan_calls::check(plan, party, claim, letters)
 }
 
 // Writing a plan in the form to file: how many bytes.
@@ -68,19 +74,24 @@ pub extern "C" fn gawherino_write(plan: &[u8], out: &mut [u8]) -> u32
 
 // The need of each critical set: how many numbers.
 #[no_mangle]
-pub extern "C" fn gawherino_needs(plan: &[u8], needs: &mut [u16]) -> u32
-    ensures { λ r. ⌜ PassesNeeds (asked (now (plan .entry))) r (now (needs .entry)) (now (needs .exit)) ⌝ }
+pub extern "C" fn gawherino_needs(plan: &[u8], party: u32, needs: &mut [u16]) -> u32
+    ensures { λ r. ⌜ PassesNeeds (asked (now (plan .entry)) party) r (now (needs .entry)) (now (needs .exit)) ⌝ }
 {
-    plan_calls::needs(plan, needs)
+    plan_calls::needs(plan, party, needs)
 }
 
 // The page of the needs: 0; further how many bytes.
 #[no_mangle]
-pub extern "C" fn gawherino_page(plan: &[u8], page: &mut [u8], length: &mut [u64]) -> u32
-    ensures { λ r. ⌜ PassesPage (asked (now (plan .entry))) r (now (page .entry)) (now (page .exit)) (now (length .entry))
+pub extern "C" fn gawherino_page(
+    plan: &[u8],
+    party: u32,
+    page: &mut [u8],
+    length: &mut [u64],
+) -> u32
+    ensures { λ r. ⌜ PassesPage (asked (now (plan .entry)) party) r (now (page .entry)) (now (page .exit)) (now (length .entry))
         (now (length .exit)) ⌝ }
 {
-    plan_calls::page(plan, page, length)
+    plan_calls::page(plan, party, page, length)
 }
 
 // CALLS ON A TABLE

@@ -70,7 +70,7 @@ largest (v ∷ vs) = cond (eqb v unmeasured) (largest vs) (larger v (largest vs)
 abbrev pub shortNeeds : Semiautomaton → ℕ → Bool
 shortNeeds S size = ltb size (entries S)
 
--- The first of 1 to 7 and 9 that applies with so many numbers lent, 0 if none does.
+-- The first of what is asked and then 9 that applies with so many numbers lent, 0 if none does.
 abbrev pub needsRefusal : Asked → ℕ → ℕ
 needsRefusal A size = refusalWith A (shortNeeds (A .means) size)
 

@@ -103,12 +103,12 @@ pub fn enter(needs: &mut [u16], sets: &[u64], n: usize, m: usize, starts: u64)
     enter_forks(needs, &lifetimes, sets, n, m, reached);
 }
 
-// The needs of a plan's critical sets.
-pub fn of_plan(plan: &[u8], needs: &mut [u16]) -> Needs
-    ensures { λ r. ⌜ NeedsOf (asked (now (plan .entry))) r (now (needs .entry)) (now (needs .exit)) ⌝ }
+// The needs of a plan's critical sets for a party.
+pub fn of_plan(plan: &[u8], party: u32, needs: &mut [u16]) -> Needs
+    ensures { λ r. ⌜ NeedsOf (asked (now (plan .entry)) party) r (now (needs .entry)) (now (needs .exit)) ⌝ }
 {
     let mut sets = [0u64; semiautomata::MAX_SETS];
-    let loaded = plan::load(plan, &mut sets);
+    let loaded = plan::load(plan, party, &mut sets);
     match loaded {
         Loaded::Refused(r) => Needs::Refused(r),
         Loaded::Plan {

@@ -13,7 +13,7 @@ use Rattle.slices.specs.Appending.{Room, Appended}
 use Rattle.plan.specs.Asked.{refusalOf, Passes}
 use Rattle.plan.specs.Bytes.{asked, refusal}
 use Rattle.plan.proofs.Asked.{clear-passes, refused-passing, unread}
-use Rattle.plan.proofs.Refusals.{asked-proper}
+use Rattle.plan.proofs.Refusals.{asked-proper, asked-zero}
 use Rattle.inputs.specs.Inputs.{planOf, noPlan}
 use Rattle.lines.specs.Lines.{refusedLine}
 use Rattle.lines.proofs.Widths.{refused-width}
@@ -55,11 +55,11 @@ module _ (input : List ℕ) {old : List ℕ} where
       }
 
   module _ (e : noPlan input ≡ false) where
-    pub page-printed : {count : ℕ} {out : List ℕ} → PageOf (asked (planOf input)) (Bytes count) old out → Prints input old count out
+    pub page-printed : {count : ℕ} {out : List ℕ} → PageOf (asked (planOf input) 0) (Bytes count) old out → Prints input old count out
     page-printed {count} {out} p =
         let (z, (c, is)) = p .gives in
-        let A = asked (planOf input) in
-        let P = asked-proper (planOf input) in
+        let A = asked (planOf input) 0 in
+        let P = asked-proper (planOf input) 0 in
         let w : Passes A = clear-passes A P _ z in
         let text = page (A .means) (p .numbers) in
         let fits : length text ≤ length old = elim (decLt (length old) (length text)) [
@@ -68,25 +68,25 @@ module _ (input : List ℕ) {old : List ℕ} where
         ] in
         record {
           text = text;
-          shows = shown (is-refusal input e ∙ w) (p .numbers) (p .tells w);
+          shows = shown (is-refusal input e ∙ sym (asked-zero (planOf input)) ∙ w) (p .numbers) (p .tells w);
           put = appended-at-front fits c is;
         }
 
     -- so many bytes are enough for every page: what is refused is the plan
-    pub refused-is : maxPage ≤ length old → {number : ℕ} {mid : List ℕ} → PageOf (asked (planOf input)) (Refused number) old mid
+    pub refused-is : maxPage ≤ length old → {number : ℕ} {mid : List ℕ} → PageOf (asked (planOf input) 0) (Refused number) old mid
         → (number ≡ refusal (planOf input)) × ¬ (number ≡ 0) × (mid ≡ old)
     refused-is l {number} p =
         let (is, n, kept) = p .gives in
-        let A = asked (planOf input) in
-        let P = asked-proper (planOf input) in
+        let A = asked (planOf input) 0 in
+        let P = asked-proper (planOf input) 0 in
         elim (ℕ-discrete (refusalOf A) 0) [
           | yes w ↦
               let fits = most (P .sized w) (p .tells w) in
               absurd (n (is ∙ refused-passing A P w _ ∙ rw (le-ltb (length old) (length (page (A .means) (p .numbers))) (omega (arith, fits, l)))))
-          | no m ↦ (is ∙ sym (unread A P refl m _), n, kept)
+          | no m ↦ (is ∙ sym (unread A P refl m _) ∙ asked-zero (planOf input), n, kept)
         ]
 
-    pub refused-printed : maxPage ≤ length old → {number : ℕ} {mid : List ℕ} → PageOf (asked (planOf input)) (Refused number) old mid
+    pub refused-printed : maxPage ≤ length old → {number : ℕ} {mid : List ℕ} → PageOf (asked (planOf input) 0) (Refused number) old mid
         → {r : ℕ} {out : List ℕ} → Appended mid 0 (refusedLine number) r out → Prints input old r out
     refused-printed l {number} p q =
         let (is, n, kept) = refused-is l p in

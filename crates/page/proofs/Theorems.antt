@@ -16,7 +16,7 @@ use Rattle.semiautomata.specs.Levels.{live, clashIn}
 use Rattle.semiautomata.specs.Access.{accessible, accessibleBy}
 use Rattle.plan.specs.Asked.{refusalOf}
 use Rattle.plan.specs.Bytes.{meaning, planChecks, WellFormed}
-use Rattle.plan.proofs.Refusals.{asked-proper}
+use Rattle.plan.proofs.Refusals.{asked-proper, asked-zero}
 use Rattle.needs.proofs.Computed.{tells-so}
 use Rattle.inputs.specs.Inputs.{planOf, noPlan, wanted}
 use Rattle.inputs.proofs.Inputs.{still-plan, same-plan, told-wanted}
@@ -82,11 +82,11 @@ well-formed : WellFormed (planOf sampleInput)
 unfolding refusalOf planChecks any
 well-formed = refl
 
-sample-tells : TellsNeeds (meaning (planOf sampleInput)) sampleNumbers
+sample-tells : TellsNeeds (meaning (planOf sampleInput) 0) sampleNumbers
 unfolding any clashIn live accessible accessibleBy
 sample-tells =
-    let z = asked-proper (planOf sampleInput) .sized well-formed in
-    tells-so (meaning (planOf sampleInput)) (z .within) (z .n-high) sampleNumbers refl
+    let z = asked-proper (planOf sampleInput) 0 .sized (asked-zero (planOf sampleInput) ∙ well-formed) in
+    tells-so (meaning (planOf sampleInput) 0) (z .within) (z .n-high) sampleNumbers refl
 
 pub sample : SampleShown
 unfolding inputRefusal noPlan refusalOf planChecks any page line right left decimal digits each size

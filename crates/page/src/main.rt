@@ -25,7 +25,7 @@ fn page_of(input: &[u8], out: &mut [u8]) -> usize
         return lines::refused(out, 0, 1);
     }
     let end = inputs::total(input);
-    let paged = pages::of_plan(&input[..end], out);
+    let paged = pages::of_plan(&input[..end], 0, out);
     match paged {
         Page::Bytes(count) => count,
         Page::Refused(number) => lines::refused(out, 0, number),

@@ -18,7 +18,8 @@ abbrev pub outcomeOfPage : Page → Outcome ℕ
 outcomeOfPage (Bytes count) = answered count
 outcomeOfPage (Refused r) = refused r
 
--- The first of 1 to 7 and 9 that applies with so many bytes lent for this page, 0 if none does. 9: fewer are lent than the page has.
+-- The first of what is asked and then 9 that applies with so many bytes lent for this page, 0 if none does. 9: fewer are lent than it
+-- has.
 abbrev pub pageRefusal : Asked → List ℕ → ℕ → ℕ
 pageRefusal A text size = refusalWith A (ltb size (length text))
 

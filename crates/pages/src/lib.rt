@@ -179,12 +179,12 @@ fn of_sets(page: &mut [u8], sets: &[u64], n: usize, m: usize, starts: u64) -> Pa
     Page::Bytes(put_forks(page, forks_at, needs, sets, n, m))
 }
 
-// The page of a plan.
-pub fn of_plan(plan: &[u8], page: &mut [u8]) -> Page
-    ensures { λ r. ⌜ PageOf (asked (now (plan .entry))) r (now (page .entry)) (now (page .exit)) ⌝ }
+// The page of a plan for a party.
+pub fn of_plan(plan: &[u8], party: u32, page: &mut [u8]) -> Page
+    ensures { λ r. ⌜ PageOf (asked (now (plan .entry)) party) r (now (page .entry)) (now (page .exit)) ⌝ }
 {
     let mut sets = [0u64; semiautomata::MAX_SETS];
-    let loaded = plan::load(plan, &mut sets);
+    let loaded = plan::load(plan, party, &mut sets);
     match loaded {
         Loaded::Refused(r) => Page::Refused(r),
         Loaded::Plan {

@@ -10,14 +10,15 @@ use lib.Dec.{eqb}
 use borrow.Author.Tests.{eqb-true, eqb-false}
 use Rattle.bitset.proofs.Tests.{decided}
 use Rattle.refusals.specs.Checks.{short}
+use Rattle.refusals.specs.Groups.{lastRefusal}
 use Rattle.refusals.proofs.First.{first-behind, first-before}
-use Rattle.plan.specs.Asked.{Asked, refusalOf, refusalWith, Passes, highest, Proper}
+use Rattle.plan.specs.Asked.{Asked, refusalOf, refusalWith, Passes, Proper}
 
 module _ (A : Asked) (P : Proper A) where
   -- 9 is looked at where no check applies; else it does not matter
   pub refused-passing : Passes A → (b : Bool) → refusalWith A b ≡ cond b 9 0
   unfolding refusalOf refusalWith
-  refused-passing w b = first-behind highest (A .checks) (short b ∷ []) (P .numbered) w
+  refused-passing w b = first-behind lastRefusal (A .checks) (short b ∷ []) (P .numbered) w
 
   pub refused-unread : ¬ Passes A → (b : Bool) → refusalWith A b ≡ refusalOf A
   unfolding refusalOf refusalWith
@@ -41,3 +42,10 @@ module _ (A : Asked) (P : Proper A) where
       nine : (b : Bool) → ¬ (_≡_ {A = ℕ} (cond b 9 0) 15)
       nine true z = omega arith
       nine false z = omega arith
+
+-- what is asked counts by its refusal alone
+pub refused-same : (A B : Asked) → Proper A → Proper B → refusalOf A ≡ refusalOf B → (b : Bool) → refusalWith A b ≡ refusalWith B b
+refused-same A B P Q e b = elim (passing A P) [
+  | inl w ↦ refused-passing A P w b ∙ sym (refused-passing B Q (sym e ∙ w) b)
+  | inr n ↦ refused-unread A P n b ∙ e ∙ sym (refused-unread B Q (λ w. n (e ∙ w)) b)
+]

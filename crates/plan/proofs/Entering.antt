@@ -1,6 +1,6 @@
 -- What holds between two turns of the loops over starts and lines: `-none` before the first, `-next` or `-off` after one more.
 -- Assumes nothing.
-use Prim.Native.Nat.{ℕ, suc, _+_, _*_, _^_, _%_, _/_, _≤_, _<_}
+use Prim.Native.Nat.{ℕ, suc, _+_, _*_, _^_, _%_, _/_, _≤_, _<_, max}
 use mathlib.Core.Bool.{Bool, true, false, not, _&&_, _||_, true≢false, and-true, and-false, or-true, or-false, or-assoc}
 use mathlib.Core.Path.{_≡_, refl, sym, _∙_}
 use mathlib.Core.Logic.{_⊎_, inl, inr}
@@ -14,27 +14,28 @@ use lib.ListN.{length, getD, set, length-set}
 use lib.Seq.{getD-set-same, getD-set-other}
 use lib.Bits.{bitAnd, bitOr, or-lt}
 use lib.Pow.{pow-lt, pow-pos}
-use borrow.Author.Tests.{lt-ltb, ltb-true, lt-leb, leb-false, eq-eqb}
+use borrow.Author.Tests.{lt-ltb, ltb-true, ltb-false, lt-leb, leb-false, eqb-true, eq-eqb, not-true, not-false}
 use Rattle.bitset.specs.Sets.{any, single}
 use Rattle.bitset.specs.Numbers.{has, setOf}
-use Rattle.bitset.proofs.Tests.{decided, not-so, or-none}
+use Rattle.bitset.proofs.Tests.{decided, not-so, or-none, same-test}
+use Rattle.bitset.proofs.Below.{any-none}
 use Rattle.bitset.proofs.Bits.{has-or, has-and, has-empty, has-setOf, has-insert, has-test, shl-one, same-members}
 use Rattle.semiautomata.specs.Sizes.{maxSets}
 use Rattle.semiautomata.specs.Successors.{place, Blank}
 use Rattle.semiautomata.proofs.Successors.{place-lt}
 use Rattle.semiautomata.proofs.Places.{size-le, place-same}
 use Rattle.plan.specs.declared.Line.{Line}
-use Rattle.plan.specs.Plan.{Plan, says, semiautomaton, twice, startHigh, startOff, lineFits}
+use Rattle.plan.specs.Plan.{Plan, says, isStart, semiautomaton, maxParty, twice, startHigh, startOff, lineFits, lineOff, partyHigh}
 use Rattle.plan.specs.inner.Steps.{StartsEntered, LinesEntered}
 use Rattle.plan.proofs.Tests.{not-and, not-ltb}
 use Rattle.plan.proofs.Plan.{says-is}
 
 -- the plan with the first i of its starts, or of its lines
 abbrev pub startsTo : ℕ → Plan → Plan
-startsTo i P = record { n = P .n; m = P .m; p = i; e = P .e; start = P .start; line = P .line }
+startsTo i P = record { edition = P .edition; n = P .n; m = P .m; p = i; e = P .e; start = P .start; line = P .line }
 
 abbrev pub linesTo : ℕ → Plan → Plan
-linesTo i P = record { n = P .n; m = P .m; p = P .p; e = i; start = P .start; line = P .line }
+linesTo i P = record { edition = P .edition; n = P .n; m = P .m; p = P .p; e = i; start = P .start; line = P .line }
 
 -- STARTS
 
@@ -52,7 +53,7 @@ module _ (P : Plan) (states : P .n ≤ 64) {i set : ℕ} {off : Bool} (w : Start
   withStart = bitOr set (bitAnd (setOf 64 (single (P .start i))) (setOf 64 (λ t. ltb t (P .n))))
 
   start-entered : (t : ℕ) → (ltb t (P .n) ≡ true) ⊎ (ltb t (P .n) ≡ false)
-      → has withStart t ≡ (ltb t (P .n) && semiautomaton (startsTo (suc i) P) .initial t)
+      → has withStart t ≡ (ltb t (P .n) && isStart (startsTo (suc i) P) t)
   unfolding any
   start-entered t (inl e) =
       rw (has-or, w .set-is, has-setOf, has-and, has-setOf, has-setOf, e, lt-ltb t 64 (omega (arith, ltb-true t (P .n) e)), and-true)
@@ -77,19 +78,25 @@ module _ (P : Plan) (states : P .n ≤ 64) {i set : ℕ} {off : Bool} (w : Start
 
 -- LINES
 
-pub lines-none : (P : Plan) {sets : List ℕ} → Blank maxSets sets → LinesEntered (linesTo 0 P) sets (record { off = false; twice = false })
+pub lines-none : (P : Plan) (party : ℕ) {sets : List ℕ} → Blank maxSets sets
+    → LinesEntered (linesTo 0 P) party sets (record { off = false; twice = false; highest = 0 })
 unfolding any
-lines-none P b = record {
+lines-none P party b = record {
   size = b .long;
   below = λ j h. rw (b .zero) (pow-pos (P .n));
   edges = λ q a t h g k. rw (b .zero, has-empty);
   off-is = refl;
   twice-is = λ _. refl;
+  none-higher = λ i h. absurd (omega arith);
+  high-is = refl;
 }
 
--- the loop's test of a line's numbers, and the set with a line in it
+-- the loop's test of a line's numbers, and of whether it is passed over; the set with a line in it
 abbrev pub offTest : Plan → Line → Bool
 offTest P l = (leb (P .n) (l .from) || leb (P .m) (l .letter)) || leb (P .n) (l .to)
+
+abbrev pub passedOver : Plan → ℕ → Line → Bool
+passedOver P party l = offTest P l || not (eqb (l .party) party)
 
 abbrev linePlace : Plan → Line → ℕ
 linePlace P l = place (P .m) (l .from) (l .letter)
@@ -100,36 +107,72 @@ withLine P l sets = set sets (linePlace P l) (bitOr (getD sets (linePlace P l) 0
 off-test : (P : Plan) (l : Line) → offTest P l ≡ not (lineFits P l)
 off-test P l = simp (not-and, not-ltb, or-assoc)
 
-pub line-fits : (P : Plan) (l : Line) → offTest P l ≡ false → (l .from < P .n) × (l .letter < P .m) × (l .to < P .n)
+line-fits : (P : Plan) (l : Line) → offTest P l ≡ false → (l .from < P .n) × (l .letter < P .m) × (l .to < P .n)
 line-fits P l e =
     let (e, c) = or-none (leb (P .n) (l .from) || leb (P .m) (l .letter)) _ e in
     let (a, b) = or-none (leb (P .n) (l .from)) _ e in
     (leb-false _ _ a, leb-false _ _ b, leb-false _ _ c)
 
-module _ (P : Plan) (states : P .n ≤ 64) (letters : P .m ≤ 32) {i : ℕ} {sets : List ℕ} {off again : Bool}
-    (w : LinesEntered (linesTo i P) sets (record { off = off; twice = again })) where
+-- the larger of two is above a number if one of them is
+above-max : (c a b : ℕ) → ltb c (max a b) ≡ (ltb c a || ltb c b)
+above-max c a b = same-test _ _
+    (λ e. elim (decided (ltb c a)) [
+      | inl d ↦ rw d
+      | inr d ↦ rw (d, lt-ltb c b (omega (arith, ltb-true c (max a b) e, ltb-false c a d)))
+    ])
+    (λ e. lt-ltb c (max a b) (elim (decided (ltb c a)) [
+      | inl d ↦ omega (arith, ltb-true c a d)
+      | inr d ↦ omega (arith, ltb-true c b (rw d at e))
+    ]))
+
+module _ (P : Plan) (party : ℕ) (states : P .n ≤ 64) (letters : P .m ≤ 32) {i : ℕ} {sets : List ℕ} {off again : Bool} {highest : ℕ}
+    (w : LinesEntered (linesTo i P) party sets (record { off = off; twice = again; highest = highest })) where
   abbrev l : Line
   l = P .line i
 
-  -- a line with a number off is not entered
-  lines-off : offTest P l ≡ true → LinesEntered (linesTo (i + 1) P) sets (record { off = true; twice = again })
+  next-off : (off || offTest P l) ≡ lineOff (linesTo (suc i) P)
   unfolding any
-  lines-off e = rw add-one (record {
+  next-off = rw (w .off-is, off-test P l)
+
+  next-higher : (j : ℕ) → j < suc i → P .line j .party ≤ max highest (l .party)
+  next-higher j h = elim (ℕ-discrete j i) [ yes e ↦ rw e (omega arith) | no e ↦ omega (arith, w .none-higher j (omega arith)) ]
+
+  next-high : ltb maxParty (max highest (l .party)) ≡ partyHigh (linesTo (suc i) P)
+  unfolding any
+  next-high = rw (above-max, w .high-is)
+
+  -- a line with a number off, or of another party, is not entered
+  lines-over : passedOver P party l ≡ true
+      → LinesEntered (linesTo (i + 1) P) party sets
+      (record { off = off || offTest P l; twice = again; highest = max highest (l .party) })
+  unfolding any
+  lines-over e = rw add-one (record {
     size = w .size;
     below = w .below;
     edges = λ q a t h g k. rw (w .edges q a t h g k, not-so _ (nowhere q a t h g k), or-false);
-    off-is = rw (sym (off-test P l) ∙ e, or-true);
-    twice-is = λ z. absurd (true≢false z);
+    off-is = next-off;
+    twice-is = λ z.
+        let (x, y) = or-none off _ z in
+        let other : eqb (l .party) party ≡ false = not-true _ (rw y at e) in
+        rw (w .twice-is x, other, any-none i (λ _. false) (λ _ _. refl), or-false);
+    none-higher = next-higher;
+    high-is = next-high;
   })
     where
-      nowhere : (q a t : ℕ) → q < P .n → a < P .m → t < P .n → ¬ (says l q a t ≡ true)
+      nowhere : (q a t : ℕ) → q < P .n → a < P .m → t < P .n → ¬ (says l q a t party ≡ true)
       nowhere q a t h g k d =
-          let (x, y, z) = says-is l q a t d in
-          true≢false (sym e ∙ rw (x, y, z, lt-leb (P .n) q h, lt-leb (P .m) a g, lt-leb (P .n) t k))
+          let (x, y, z, p) = says-is l q a t party d in
+          true≢false (sym e ∙ rw (x, y, z, lt-leb (P .n) q h, lt-leb (P .m) a g, lt-leb (P .n) t k, eq-eqb (l .party) party p))
 
-  module _ (e : offTest P l ≡ false) where
+  module _ (e : passedOver P party l ≡ false) where
+    in-range : offTest P l ≡ false
+    in-range = or-none (offTest P l) _ e .0
+
+    its-party : eqb (l .party) party ≡ true
+    its-party = not-false _ (or-none (offTest P l) _ e .1)
+
     fits : (l .from < P .n) × (l .letter < P .m) × (l .to < P .n)
-    fits = line-fits P l e
+    fits = line-fits P l in-range
 
     among : linePlace P l < P .n * P .m
     among = place-lt (P .n) (P .m) _ _ (fits .0) (fits .1)
@@ -149,7 +192,7 @@ module _ (P : Plan) (states : P .n ≤ 64) (letters : P .m ≤ 32) {i : ℕ} {se
     ]
 
     next-edges : (q a t : ℕ) → q < P .n → a < P .m → t < P .n
-        → has (getD (withLine P l sets) (place (P .m) q a) 0) t ≡ (semiautomaton (linesTo i P) .edge q a t || says l q a t)
+        → has (getD (withLine P l sets) (place (P .m) q a) 0) t ≡ (semiautomaton (linesTo i P) party .edge q a t || says l q a t party)
     next-edges q a t h g k = elim (ℕ-discrete (place (P .m) q a) (linePlace P l)) [
       | yes e ↦
           let (x, y) = place-same (P .m) q a (l .from) (l .letter) g (fits .1) e in
@@ -161,33 +204,54 @@ module _ (P : Plan) (states : P .n ≤ 64) (letters : P .m ≤ 32) {i : ℕ} {se
             w .edges (l .from) (l .letter) t (fits .0) (fits .1) k,
             eq-eqb (l .from) (l .from) refl,
             eq-eqb (l .letter) (l .letter) refl,
+            its-party,
+            and-true,
           )
       | no e ↦
-          let other : says l q a t ≡ false = not-so _ (λ d. let (x, y, _) = says-is l q a t d in e (rw (x, y))) in
+          let other : says l q a t party ≡ false = not-so _ (λ d. let (x, y, _, _) = says-is l q a t party d in e (rw (x, y))) in
           rw (getD-set-other sets _ (place (P .m) q a) _ 0 e, w .edges q a t h g k, other, or-false)
     ]
 
-    lines-next : LinesEntered (linesTo (i + 1) P) (withLine P l sets)
-        (record { off = off; twice = again || eqb (bitAnd (getD sets (linePlace P l) 0 / 2 ^ l .to) 1) 1 })
+    lines-next : LinesEntered (linesTo (i + 1) P) party (withLine P l sets)
+        (record {
+          off = off || offTest P l;
+          twice = again || eqb (bitAnd (getD sets (linePlace P l) 0 / 2 ^ l .to) 1) 1;
+          highest = max highest (l .party);
+        })
     unfolding any
     lines-next = rw add-one (record {
       size = length-set sets _ _ ∙ w .size;
       below = next-below;
       edges = next-edges;
-      off-is = rw (w .off-is, sym (off-test P l) ∙ e, or-false);
-      twice-is = λ z. rw (w .twice-is z, has-test, w .edges _ _ (l .to) (fits .0) (fits .1) (fits .2));
+      off-is = next-off;
+      twice-is = λ z.
+          rw (
+            w .twice-is (or-none off _ z .0),
+            has-test,
+            w .edges _ _ (l .to) (fits .0) (fits .1) (fits .2),
+            its-party,
+            eqb-true (l .party) party its-party,
+          );
+      none-higher = next-higher;
+      high-is = next-high;
     })
 
 -- .. and of the line as it is read
-module _ (P : Plan) (states : P .n ≤ 64) (letters : P .m ≤ 32) {i : ℕ} {sets : List ℕ} {off again : Bool}
-    (w : LinesEntered (linesTo i P) sets (record { off = off; twice = again })) {l : Line} (is : l ≡ P .line i) where
-  pub read-off : offTest P l ≡ true → LinesEntered (linesTo (i + 1) P) sets (record { off = true; twice = again })
-  read-off e = lines-off P states letters w (rw is at e)
+module _ (P : Plan) (party : ℕ) (states : P .n ≤ 64) (letters : P .m ≤ 32) {i : ℕ} {sets : List ℕ} {off again : Bool} {highest : ℕ}
+    (w : LinesEntered (linesTo i P) party sets (record { off = off; twice = again; highest = highest }))
+    {l : Line} (is : l ≡ P .line i) {high : ℕ} (larger : high ≡ max highest (l .party)) where
+  pub read-over : passedOver P party l ≡ true
+      → LinesEntered (linesTo (i + 1) P) party sets (record { off = off || offTest P l; twice = again; highest = high })
+  read-over e = rw (larger, is) (lines-over P party states letters w (rw is at e))
 
-  module _ (e : offTest P l ≡ false) where
+  module _ (e : passedOver P party l ≡ false) where
     pub read-place : (linePlace P l < 2048) × (l .to < 64)
-    read-place = rw is (place-in P states letters w (rw is at e))
+    read-place = rw is (place-in P party states letters w (rw is at e))
 
-    pub read-next : LinesEntered (linesTo (i + 1) P) (withLine P l sets)
-        (record { off = off; twice = again || eqb (bitAnd (getD sets (linePlace P l) 0 / 2 ^ l .to) 1) 1 })
-    read-next = rw is (lines-next P states letters w (rw is at e))
+    pub read-next : LinesEntered (linesTo (i + 1) P) party (withLine P l sets)
+        (record {
+          off = off || offTest P l;
+          twice = again || eqb (bitAnd (getD sets (linePlace P l) 0 / 2 ^ l .to) 1) 1;
+          highest = high;
+        })
+    read-next = rw (larger, is) (lines-next P party states letters w (rw is at e))

@@ -1,8 +1,11 @@
 pub mod Asked
 pub mod Tests
 pub mod Plan
+pub mod Widths
 pub mod Entering
+pub mod Parting
 pub mod Refusals
 pub mod Readings
 pub mod Loading
 pub mod Theorems
+pub mod Parties

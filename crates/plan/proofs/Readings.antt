@@ -8,7 +8,9 @@ use native.Mathlib.Omega.{arith}
 use lib.Dec.{eqb}
 use borrow.Author.Tests.{eqb-true, eqb-false, ne-eqb}
 use Rattle.refusals.specs.Outcomes.{Outcome, refused, answered}
-use Rattle.plan.specs.Bytes.{headerOf, refusal, WellFormed, PlanCounts, planCounts, reading}
+use Rattle.plan.specs.Asked.{refusalOf}
+use Rattle.plan.specs.Bytes.{headerOf, asked, refusal, WellFormed, PlanCounts, planCounts, reading}
+use Rattle.plan.proofs.Refusals.{asked-zero}
 
 module _ (plan : List ℕ) where
   abbrev read : Bool → Outcome PlanCounts
@@ -33,8 +35,8 @@ module _ (plan : List ℕ) where
   reading-counts e = let (w, is) = reading-well e in (w, ap (λ (c : PlanCounts). c .n) is, ap (λ (c : PlanCounts). c .m) is)
 
   -- and the reading of what is loaded
-  pub loaded-refused : {r : ℕ} → (r ≡ refusal plan) × ¬ (r ≡ 0) → refused r ≡ reading plan
-  loaded-refused (e, n) = rw (← e, ne-eqb _ _ n)
+  pub loaded-refused : {r : ℕ} → (r ≡ refusalOf (asked plan 0)) × ¬ (r ≡ 0) → refused r ≡ reading plan
+  loaded-refused (e, n) = let e = e ∙ asked-zero plan in rw (← e, ne-eqb _ _ n)
 
   pub loaded-counts : {v : PlanCounts} → WellFormed plan → planCounts (headerOf plan) ≡ v → answered v ≡ reading plan
   loaded-counts w e = rw (w, e)

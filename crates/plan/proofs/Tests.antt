@@ -12,6 +12,10 @@ pub not-and : (a b : Bool) → not (a && b) ≡ (not a || not b)
 not-and true b = refl
 not-and false b = refl
 
+pub not-or : (a b : Bool) → not (a || b) ≡ (not a && not b)
+not-or true b = refl
+not-or false b = refl
+
 pub not-leb : (a b : ℕ) → not (leb a b) ≡ ltb b a
 not-leb a b = elim (decided (leb a b)) [ inl e ↦ rw (e, le-ltb b a (leb-true a b e)) | inr e ↦ rw (e, lt-ltb b a (leb-false a b e)) ]
 

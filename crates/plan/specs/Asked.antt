@@ -8,6 +8,7 @@ use mathlib.Core.List.{List, [], _∷_, _++_}
 use Rattle.semiautomata.specs.Semiautomaton.{Semiautomaton}
 use Rattle.semiautomata.specs.Sizes.{Sized}
 use Rattle.refusals.specs.Checks.{Check, firstOf, short, Numbered}
+use Rattle.refusals.specs.Groups.{lastRefusal}
 
 -- Its checks in order, and the semiautomaton that is meant where none of them applies.
 pub record Asked : Type 0 where
@@ -26,12 +27,8 @@ refusalWith A applies = firstOf (A .checks ++ (short applies ∷ []))
 abbrev pub Passes : Asked → Type 0
 Passes A = refusalOf A ≡ 0
 
--- The highest number of a check on plan bytes.
-abbrev pub highest : ℕ
-highest = 7
-
 -- What every call counts on of what it asks: the checks have numbers, 15 is none of them, and what passes them has the sizes of a plan.
 pub record Proper (A : Asked) : Type 0 where
-  pub numbered : Numbered highest (A .checks)
+  pub numbered : Numbered lastRefusal (A .checks)
   pub other : ¬ (refusalOf A ≡ 15)
   pub sized : Passes A → Sized (A .means)

@@ -1,4 +1,4 @@
--- Plan bytes (document 01): what stands where, what the bytes mean, and refusals 1 to 7.
+-- Plan bytes (document 01; edition 2: document 02, W-207): what stands where, what the bytes mean, and refusals 1 to 7 and 16.
 -- Assumes nothing.
 use Prim.Native.Nat.{ℕ, _+_, _*_}
 use mathlib.Core.Bool.{Bool, not, cond, _&&_, _||_}
@@ -9,7 +9,7 @@ use Rattle.semiautomata.specs.Semiautomaton.{Semiautomaton}
 use Rattle.endian.specs.Numbers.{numberAt}
 use Rattle.refusals.specs.Checks.{Check}
 use Rattle.refusals.specs.Outcomes.{Outcome, refused, answered}
-use Rattle.plan.specs.Plan.{Plan, semiautomaton, countOff, startOff, lineOff, lineTwice}
+use Rattle.plan.specs.Plan.{Plan, line, semiautomaton, countOff, startOff, lineOff, lineTwice, hasParties, partyHigh, partyOff}
 use Rattle.plan.specs.Asked.{Asked, refusalOf, Passes}
 use Rattle.plan.specs.declared.Header.{Header}
 use Rattle.plan.specs.declared.Line.{Line}
@@ -29,30 +29,34 @@ headerOf plan = record {
   total = numberAt plan 14 2;
 }
 
--- A line has so many bytes: from, code, to.
-abbrev pub lineWidth : ℕ
-lineWidth = 3
+-- A line has so many bytes by its edition: from, code, to, and in edition 2 the party.
+abbrev pub lineWidth : ℕ → ℕ
+lineWidth edition = cond (hasParties edition) 4 3
 
-abbrev pub lineAt : List ℕ → ℕ → Line
-lineAt plan at = record { from = getD plan at 0; letter = getD plan (at + 1) 0; to = getD plan (at + 2) 0 }
+abbrev pub lineFrom : List ℕ → ℕ → ℕ → Line
+lineFrom plan at party = line (getD plan at 0) (getD plan (at + 1) 0) (getD plan (at + 2) 0) party
+
+abbrev pub lineAt : ℕ → List ℕ → ℕ → Line
+lineAt edition plan at = lineFrom plan at (cond (hasParties edition) (getD plan (at + 3) 0) 0)
 
 -- The plan that the bytes hold where a header says: a start is one byte, a line is lineWidth bytes.
 abbrev pub parsedBy : Header → List ℕ → Plan
 parsedBy h plan = record {
+  edition = h .edition;
   n = h .n;
   m = h .m;
   p = h .p;
   e = h .e;
   start = λ i. getD plan (h .starts + i) 0;
-  line = λ i. lineAt plan (h .lines + lineWidth * i);
+  line = λ i. lineAt (h .edition) plan (h .lines + lineWidth (h .edition) * i);
 }
 
 abbrev pub parsed : List ℕ → Plan
 parsed plan = parsedBy (headerOf plan) plan
 
--- What plan bytes mean.
-abbrev pub meaning : List ℕ → Semiautomaton
-meaning plan = semiautomaton (parsed plan)
+-- What plan bytes mean for a party.
+abbrev pub meaning : List ℕ → ℕ → Semiautomaton
+meaning plan party = semiautomaton (parsed plan) party
 
 -- A part of so many bytes begins at 16 or later and ends no later than the total; two non-empty parts don't overlap.
 abbrev pub placed : ℕ → ℕ → ℕ → Bool
@@ -63,40 +67,48 @@ overlap at size at′ size′ = (ltb 0 size && ltb 0 size′) && (ltb at (at′ 
 
 abbrev pub misplaced : Header → Bool
 misplaced h =
-    not (placed (h .total) (h .starts) (h .p))
-    || (not (placed (h .total) (h .lines) (lineWidth * h .e)) || overlap (h .starts) (h .p) (h .lines) (lineWidth * h .e))
+    let size = lineWidth (h .edition) * h .e in
+    not (placed (h .total) (h .starts) (h .p)) || (not (placed (h .total) (h .lines) size) || overlap (h .starts) (h .p) (h .lines) size)
 
 -- Refusals 1 to 4, in order, of so many bytes with this header.
 abbrev pub headerChecks : ℕ → Header → List Check
 headerChecks size h =
     record { number = 1; applies = ltb size 16 || not (eqb (h .total) size) }
-    ∷ record { number = 2; applies = not (eqb (h .edition) 1) }
+    ∷ record { number = 2; applies = not (eqb (h .edition) 1 || eqb (h .edition) 2) }
     ∷ record { number = 3; applies = countOff (h .n) (h .m) (h .p) (h .e) }
     ∷ record { number = 4; applies = misplaced h }
     ∷ []
 
--- Refusals 5 to 7, in order.
+-- Refusals 5 to 7 and then 16, in order.
 abbrev pub partChecks : Plan → List Check
 partChecks P =
     record { number = 5; applies = startOff P }
     ∷ record { number = 6; applies = lineOff P }
     ∷ record { number = 7; applies = lineTwice P }
+    ∷ record { number = 16; applies = partyHigh P }
     ∷ []
 
--- Refusals 1 to 7, in order.
+-- Refusals 1 to 7 and 16 of the bytes alone, in order.
 unfoldable pub planChecks : List ℕ → List Check
 planChecks plan = headerChecks (length plan) (headerOf plan) ++ partChecks (parsed plan)
 
--- What a call asks that takes the bytes as they are.
-abbrev pub asked : List ℕ → Asked
-asked plan = record { checks = planChecks plan; means = meaning plan }
+-- What a call asks that names no party (reading and writing): nothing but that the bytes pass.
+abbrev pub unnamed : List ℕ → Asked
+unnamed plan = record { checks = planChecks plan; means = meaning plan 0 }
 
--- The lowest that applies, 0 if none does; a plan is well formed if none applies.
+-- The first that applies, 0 if none does; a plan is well formed if none applies.
 abbrev pub refusal : List ℕ → ℕ
-refusal plan = refusalOf (asked plan)
+refusal plan = refusalOf (unnamed plan)
 
 abbrev pub WellFormed : List ℕ → Type 0
-WellFormed plan = Passes (asked plan)
+WellFormed plan = Passes (unnamed plan)
+
+-- What a call asks that names a party: 16 of the party too, and then what the plan means for it.
+unfoldable pub askedChecks : List ℕ → ℕ → List Check
+askedChecks plan party = planChecks plan ++ (record { number = 16; applies = partyOff (headerOf plan .edition) party } ∷ [])
+
+abbrev pub asked : List ℕ → ℕ → Asked
+asked plan party = record { checks = askedChecks plan party; means = meaning plan party }
 
 -- What reading answers: n, m, p and e, or the refusal.
 pub record PlanCounts : Type 0 where

@@ -4,4 +4,5 @@ pub mod Bytes
 pub mod Written
 pub mod Loading
 pub mod Theorems
+pub mod Parties
 pub mod inner

@@ -18,7 +18,7 @@ pub record Sound (plan : List ℕ) (h : Header) : Type 0 where
   pub states : h .n ≤ 64
   pub letters : h .m ≤ 32
   pub starts-end : h .starts + h .p ≤ length plan
-  pub lines-end : h .lines + lineWidth * h .e ≤ length plan
+  pub lines-end : h .lines + lineWidth (h .edition) * h .e ≤ length plan
 
 -- The numbers hold S: its counts, its initial states and its successor sets.
 pub record Holds (S : Semiautomaton) (n m starts : ℕ) (sets : List ℕ) : Type 0 where

@@ -1,25 +1,34 @@
-// Plan bytes (document 01): one pass over them judges refusals 1 to 7 and loads what they mean as successor sets.
-// Nobody above looks at bytes: `load` gives the semiautomaton that a well-formed plan means, `read` its counts alone; for those who need
-// the lists themselves, `header_of`, `starts_of` and `line_of` give them.
+// Plan bytes (document 01; edition 2: document 02, W-207): refusals 1 to 7 and 16 are judged while what they mean for a party is loaded
+// as successor sets. Nobody above looks at bytes: `load` gives the semiautomaton that a well-formed plan means for the party, `read` its
+// counts alone; for those who need the lists themselves, `header_of`, `starts_of` and `line_of` give them.
 ghost use mathlib.Core.Path.{_≡_};
-ghost use mathlib.Core.Bool.{cond};
-ghost use Prim.Native.Nat.{_+_, _≤_, _<_};
+ghost use mathlib.Core.Bool.{false, cond, not, _&&_};
+ghost use Prim.Native.Nat.{_+_, _≤_, _<_, max};
+ghost use lib.Dec.{eqb};
 ghost use lib.ListN.{length};
 ghost use Rattle.refusals.specs.Checks.{firstOf};
-ghost use Rattle.plan.specs.Plan.{countOff};
-ghost use Rattle.plan.specs.Bytes.{headerOf, parsedBy, meaning, misplaced, headerChecks, asked, WellFormed, outcomeOfReading};
-ghost use Rattle.plan.specs.Bytes.{planCounts, reading};
+ghost use Rattle.plan.specs.Plan.{countOff, isStart, lineOff, partyOff};
+ghost use Rattle.plan.specs.Bytes.{headerOf, lineWidth, lineFrom, parsedBy, parsed, misplaced, headerChecks, asked, WellFormed};
+ghost use Rattle.plan.specs.Bytes.{outcomeOfReading, planCounts, reading};
+ghost use Rattle.bitset.specs.Sets.{any};
 ghost use Rattle.bitset.specs.Numbers.{setOf};
 ghost use Rattle.semiautomata.specs.Sizes.{maxSets};
 ghost use Rattle.semiautomata.specs.Successors.{Blank};
 ghost use Rattle.plan.specs.Loading.{Sound, Loads};
-ghost use Rattle.plan.specs.inner.Steps.{StartsEntered, LinesEntered};
+ghost use Rattle.plan.specs.inner.Steps.{StartsEntered, twiceOf, LinesEntered};
 use semiautomata::MAX_LETTERS;
 use semiautomata::MAX_LINES;
 use semiautomata::MAX_STATES;
 
-// A line has so many bytes.
-pub const LINE_WIDTH: usize = 3;
+// The highest party.
+pub const MAX_PARTY: u8 = 7;
+
+// The edition whose lines belong to parties, and how many bytes a line has there; in the other one it has one less.
+pub const WITH_PARTIES: u16 = 2;
+
+const WIDTH_WITH_PARTY: u8 = 4;
+
+const WIDTH: u8 = 3;
 
 // The eight numbers at the front of a plan.
 pub struct Header {
@@ -33,14 +42,15 @@ pub struct Header {
     pub total: u16,
 }
 
-// A line: from, letter (code), to.
+// A line: from, letter (code), to; its party, 0 in edition 1.
 pub struct Line {
     pub from: u8,
     pub letter: u8,
     pub to: u8,
+    pub party: u8,
 }
 
-// What reading answers: the counts of states, letters, starts and lines, or the lowest refusal that applies.
+// What reading answers: the counts of states, letters, starts and lines, or the first refusal that applies.
 pub enum Reading {
     Counts { n: u16, m: u16, p: u16, e: u16 },
     Refused(u8),
@@ -74,6 +84,17 @@ pub fn header_of(plan: &[u8]) -> Header
     }
 }
 
+// A line has so many bytes.
+pub fn line_width(edition: u16) -> u8
+    ensures { λ r. ⌜ r ≡ lineWidth edition ⌝ }
+{
+    if edition == WITH_PARTIES {
+        WIDTH_WITH_PARTY
+    } else {
+        WIDTH
+    }
+}
+
 // Refusal 3.
 fn count_off(n: u16, m: u16, p: u16, e: u16) -> bool
     ensures { λ r. ⌜ r ≡ countOff n m p e ⌝ }
@@ -94,7 +115,7 @@ fn is_misplaced(h: Header) -> bool
     let starts = h.starts as u32;
     let lines = h.lines as u32;
     let starts_end = starts + h.p as u32;
-    let lines_size = LINE_WIDTH as u32 * h.e as u32;
+    let lines_size = line_width(h.edition) as u32 * h.e as u32;
     let lines_end = lines + lines_size;
     (starts < 16)
         | (total < starts_end)
@@ -120,14 +141,14 @@ fn first_of_header(total: bool, edition: bool, count: bool, part: bool) -> u8
     }
 }
 
-// The lowest refusal of 1 to 4 that applies to so many bytes with this header; 0 if none does.
+// The first refusal of 1 to 4 that applies to so many bytes with this header; 0 if none does.
 fn header_refusal(h: Header, size: usize) -> u8
     requires { ⌜ 16 ≤ size ⌝ }
     ensures { λ r. ⌜ r ≡ firstOf (headerChecks size h) ⌝ }
 {
     first_of_header(
         h.total as usize != size,
-        h.edition != 1,
+        (h.edition != 1) & (h.edition != WITH_PARTIES),
         count_off(h.n, h.m, h.p, h.e),
         is_misplaced(h),
     )
@@ -156,42 +177,70 @@ fn enter_starts(plan: &[u8], h: Header) -> Starts
     Starts { set, off }
 }
 
-// The line at a place of the list.
-pub fn line_of(plan: &[u8], h: Header, i: usize) -> Line
-    requires { ⌜ Sound (now plan) h × (i < h .e) ⌝ }
-    ensures { λ r. ⌜ r ≡ parsedBy h (now (plan .entry)) .line i ⌝ }
+// The line at a place of the bytes, of a party.
+fn line_at(plan: &[u8], at: usize, party: u8) -> Line
+    requires { ⌜ at + 3 ≤ length (now plan) ⌝ }
+    ensures { λ r. ⌜ r ≡ lineFrom (now (plan .entry)) at party ⌝ }
 {
-    let at = h.lines as usize + LINE_WIDTH * i;
     Line {
         from: plan[at],
         letter: plan[at + 1],
         to: plan[at + 2],
+        party,
     }
 }
 
-// Whether refusal 6 applies; if not, whether 7 does.
+// The line at a place of the list. Both editions have their width as a number, so that it is none to multiply by in a loop.
+pub fn line_of(plan: &[u8], h: Header, i: usize) -> Line
+    requires { ⌜ Sound (now plan) h × (i < h .e) ⌝ }
+    ensures { λ r. ⌜ r ≡ parsedBy h (now (plan .entry)) .line i ⌝ }
+{
+    if h.edition == WITH_PARTIES {
+        let at = h.lines as usize + WIDTH_WITH_PARTY as usize * i;
+        line_at(plan, at, plan[at + 3])
+    } else {
+        line_at(plan, h.lines as usize + WIDTH as usize * i, 0)
+    }
+}
+
+// Whether refusal 6 applies; if not, whether a line of one party stands twice; the highest party of all lines, 0 if there are none.
 struct Lines {
     off: bool,
     twice: bool,
+    highest: u8,
 }
 
-// Each line whose numbers are below their counts is put into the set at its place, unless it stands there already.
-fn enter_lines(plan: &[u8], h: Header, sets: &mut [u64; semiautomata::MAX_SETS]) -> Lines
+fn larger(a: u8, b: u8) -> u8
+    ensures { λ r. ⌜ r ≡ max a b ⌝ }
+{
+    if a < b { b } else { a }
+}
+
+// Each line of the party whose numbers are below their counts is put into the set at its place, unless it stands there already.
+fn enter_lines(
+    plan: &[u8],
+    h: Header,
+    party: u32,
+    sets: &mut [u64; semiautomata::MAX_SETS],
+) -> Lines
     requires { ⌜ Sound (now plan) h × Blank maxSets (now sets) ⌝ }
-    ensures { λ r. ⌜ LinesEntered (parsedBy h (now (plan .entry))) (now (sets .exit)) r ⌝ }
+    ensures { λ r. ⌜ LinesEntered (parsedBy h (now (plan .entry))) party (now (sets .exit)) r ⌝ }
 {
     let n = h.n as usize;
     let m = h.m as usize;
     let e = h.e as usize;
     let mut off = false;
     let mut twice = false;
+    let mut highest: u8 = 0;
     for i in 0..e {
         let line = line_of(plan, h, i);
         let from = line.from as usize;
         let letter = line.letter as usize;
         let to = line.to as usize;
-        if (n <= from) | (m <= letter) | (n <= to) {
-            off = true;
+        let bad = (n <= from) | (m <= letter) | (n <= to);
+        off = off | bad;
+        highest = larger(highest, line.party);
+        if bad | (line.party as u32 != party) {
             continue;
         }
         let place = from * m + letter;
@@ -199,12 +248,41 @@ fn enter_lines(plan: &[u8], h: Header, sets: &mut [u64; semiautomata::MAX_SETS])
         twice = twice | ((set >> to) & 1 == 1);
         sets[place] = set | (1 << to);
     }
-    Lines { off, twice }
+    Lines {
+        off,
+        twice,
+        highest,
+    }
 }
 
-// The first of 5 to 7 that applies; 0 if none does.
-fn first_of_parts(start: bool, line: bool, again: bool) -> u8
-    ensures { λ r. ⌜ r ≡ cond start 5 (cond line 6 (cond again 7 0)) ⌝ }
+// Whether a line of the party stands twice, where 6 does not apply.
+fn twice_of(plan: &[u8], h: Header, party: u32) -> bool
+    requires { ⌜ Sound (now plan) h ⌝ }
+    ensures { λ r. ⌜ (lineOff (parsedBy h (now (plan .entry))) ≡ false → r ≡ twiceOf (parsedBy h (now (plan .entry))) party) ⌝ }
+{
+    let mut sets = [0u64; semiautomata::MAX_SETS];
+    let lines = enter_lines(plan, h, party, &mut sets);
+    lines.twice
+}
+
+// The same of any party up to the highest but one, whose lines are entered already.
+fn twice_elsewhere(plan: &[u8], h: Header, party: u32, highest: u8) -> bool
+    requires { ⌜ Sound (now plan) h ⌝ }
+    ensures { λ r. ⌜ (lineOff (parsedBy h (now (plan .entry))) ≡ false
+        → r ≡ any (highest + 1) (λ q. not (eqb q party) && twiceOf (parsedBy h (now (plan .entry))) q)) ⌝ }
+{
+    let mut twice = false;
+    for other in 0..highest as u32 + 1 {
+        if other != party {
+            twice = twice | twice_of(plan, h, other);
+        }
+    }
+    twice
+}
+
+// The first of 5 to 7 and 16 that applies; 0 if none does.
+fn first_of_parts(start: bool, line: bool, again: bool, party: bool) -> u8
+    ensures { λ r. ⌜ r ≡ cond start 5 (cond line 6 (cond again 7 (cond party 16 0))) ⌝ }
 {
     if start {
         5
@@ -212,15 +290,24 @@ fn first_of_parts(start: bool, line: bool, again: bool) -> u8
         6
     } else if again {
         7
+    } else if party {
+        16
     } else {
         0
     }
 }
 
-// What a plan means, in sets lent empty: its initial states are answered with its counts. Or its lowest refusal.
-pub fn load(plan: &[u8], sets: &mut [u64; semiautomata::MAX_SETS]) -> Loaded
+// 16 of a call that names a party.
+fn party_off(edition: u16, party: u32) -> bool
+    ensures { λ r. ⌜ r ≡ partyOff edition party ⌝ }
+{
+    ((MAX_PARTY as u32) < party) | ((edition != WITH_PARTIES) & (party != 0))
+}
+
+// What a plan means for a party, in sets lent empty: its initial states are answered with its counts. Or its first refusal.
+pub fn load(plan: &[u8], party: u32, sets: &mut [u64; semiautomata::MAX_SETS]) -> Loaded
     requires { ⌜ Blank maxSets (now sets) ⌝ }
-    ensures { λ r. ⌜ Loads (asked (now (plan .entry))) (planCounts (headerOf (now (plan .entry)))) (now (sets .exit)) r ⌝ }
+    ensures { λ r. ⌜ Loads (asked (now (plan .entry)) party) (planCounts (headerOf (now (plan .entry)))) (now (sets .exit)) r ⌝ }
 {
     if plan.len() < 16 {
         return Loaded::Refused(1);
@@ -231,8 +318,14 @@ pub fn load(plan: &[u8], sets: &mut [u64; semiautomata::MAX_SETS]) -> Loaded
         return Loaded::Refused(front);
     }
     let starts = enter_starts(plan, h);
-    let lines = enter_lines(plan, h, sets);
-    let refused = first_of_parts(starts.off, lines.off, lines.twice);
+    let lines = enter_lines(plan, h, party, sets);
+    let elsewhere = twice_elsewhere(plan, h, party, lines.highest);
+    let refused = first_of_parts(
+        starts.off,
+        lines.off,
+        lines.twice | elsewhere,
+        (MAX_PARTY < lines.highest) | party_off(h.edition, party),
+    );
     if refused != 0 {
         return Loaded::Refused(refused);
     }
@@ -245,12 +338,12 @@ pub fn load(plan: &[u8], sets: &mut [u64; semiautomata::MAX_SETS]) -> Loaded
     }
 }
 
-// n, m, p and e of a plan, or its lowest refusal.
+// n, m, p and e of a plan, or its first refusal.
 pub fn read(plan: &[u8]) -> Reading
     ensures { λ r. ⌜ outcomeOfReading r ≡ reading (now (plan .entry)) ⌝ }
 {
     let mut sets = [0u64; semiautomata::MAX_SETS];
-    let loaded = load(plan, &mut sets);
+    let loaded = load(plan, 0, &mut sets);
     match loaded {
         Loaded::Refused(r) => Reading::Refused(r),
         Loaded::Plan {
@@ -263,10 +356,10 @@ pub fn read(plan: &[u8]) -> Reading
     }
 }
 
-// The starts of a plan that passes 1 to 7, as a set.
+// The starts of a well-formed plan, as a set.
 pub fn starts_of(plan: &[u8]) -> u64
     requires { ⌜ WellFormed (now plan) ⌝ }
-    ensures { λ r. ⌜ r ≡ setOf (meaning (now (plan .entry)) .n) (meaning (now (plan .entry)) .initial) ⌝ }
+    ensures { λ r. ⌜ r ≡ setOf (parsed (now (plan .entry)) .n) (isStart (parsed (now (plan .entry)))) ⌝ }
 {
     let h = header_of(plan);
     let starts = enter_starts(plan, h);

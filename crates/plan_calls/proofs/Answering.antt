@@ -5,15 +5,15 @@ use mathlib.Core.Bool.{Bool}
 use mathlib.Core.Path.{_≡_, refl}
 use mathlib.Core.List.{List, [], _∷_, _++_}
 use native.Mathlib.Omega.{arith}
-use Rattle.refusals.specs.Checks.{short, Numbered}
+use Rattle.refusals.specs.Checks.{short}
 use Rattle.refusals.specs.Groups.{lastRefusal}
-use Rattle.refusals.proofs.First.{numbered-both, numbered-up}
-use Rattle.plan.specs.Asked.{Asked, refusalOf, refusalWith, highest, Proper}
-use Rattle.plan.specs.Bytes.{asked, outcomeOfReading, reading}
+use Rattle.refusals.proofs.First.{numbered-both}
+use Rattle.plan.specs.Asked.{Asked, refusalOf, refusalWith, Proper}
+use Rattle.plan.specs.Bytes.{unnamed, outcomeOfReading, reading}
 use Rattle.plan.specs.declared.Reading.{Reading}
 use Rattle.plan.specs.declared.Reading.the-variants as read
 use Rattle.plan.proofs.Asked.{clear-passes}
-use Rattle.plan.proofs.Refusals.{well-formed-range, asked-proper}
+use Rattle.plan.proofs.Refusals.{well-formed-range, unnamed-proper}
 use Rattle.plan.proofs.Readings.{reading-refused, reading-counts}
 use Rattle.prepare.specs.declared.Prepared.{Prepared}
 use Rattle.prepare.specs.declared.Prepared.the-variants.{Ready, Refused, Unpredictable}
@@ -30,16 +30,13 @@ use Rattle.refusals.specs.Outcomes.{refusing}
 use Rattle.plan_calls.specs.Promises.{ofReading, ofPrepared, ofChecked}
 
 module _ (A : Asked) (P : Proper A) where
-  pub asked-numbered : Numbered lastRefusal (A .checks)
-  asked-numbered = numbered-up highest lastRefusal (omega arith) (A .checks) (P .numbered)
-
   pub unread-number : {r : ℕ} → r ≡ refusalOf A → ¬ (r ≡ 0) → Number (refusing r)
   unfolding refusalOf
-  unread-number = refused-number (A .checks) asked-numbered
+  unread-number = refused-number (A .checks) (P .numbered)
 
   pub short-number : (b : Bool) {r : ℕ} → r ≡ refusalWith A b → ¬ (r ≡ 0) → Number (refusing r)
   unfolding refusalWith
-  short-number b = refused-number (A .checks ++ (short b ∷ [])) (numbered-both lastRefusal (A .checks) (short b ∷ []) asked-numbered refl)
+  short-number b = refused-number (A .checks ++ (short b ∷ [])) (numbered-both lastRefusal (A .checks) (short b ∷ []) (P .numbered) refl)
 
   pub prepared-number : (old table old′ letters : List ℕ) (a : Prepared) → Prepares A a old table old′ letters
       → Number (ofPrepared a .first)
@@ -63,4 +60,4 @@ reading-number plan (read.Counts n m p e) d =
     let (w, is, _) = reading-counts plan d in
     let h = well-formed-range plan w .n-high in
     value (omega arith)
-reading-number plan (read.Refused r) d = let (is, z) = reading-refused plan d in unread-number (asked plan) (asked-proper plan) is z
+reading-number plan (read.Refused r) d = let (is, z) = reading-refused plan d in unread-number (unnamed plan) (unnamed-proper plan) is z

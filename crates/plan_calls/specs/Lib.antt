@@ -1,3 +1,4 @@
 pub mod Promises
 pub mod Theorems
+pub mod Parties
 pub mod inner

@@ -1,10 +1,10 @@
 // The calls on plan bytes for C, over plain numbers and lent slices: reading, preparing, the count call, the drawing program's entry, the
-// check of a claim, writing, the needs of the critical sets and their page. Where a slice for further values has too few places for the most that a call
-// may have to put there, the call is refused with 9 before anything is written.
+// check of a claim, writing, the needs of the critical sets and their page. Where a slice for further values has too few places for the
+// most that a call may have to put there, the call is refused with 9 before anything is written.
 ghost use mathlib.Core.Path.{_≡_};
 ghost use Prim.Native.Nat.{_≤_};
 ghost use lib.ListN.{length, getD};
-ghost use Rattle.plan.specs.Bytes.{planChecks, asked};
+ghost use Rattle.plan.specs.Bytes.{askedChecks, asked};
 ghost use Rattle.prepare.specs.Preparing.{Draws};
 ghost use Rattle.numbers.specs.Numbers.{Passed, noRoom};
 ghost use Rattle.plan_calls.specs.Promises.{ofPrepared, claimOf, PassesReading, PassesPrepared, PassesCount, PassesCheck};
@@ -16,24 +16,27 @@ use lookahead::Evidence;
 use needs::Needs;
 use numbers::REFUSED;
 use pages::Page;
+use plan::Loaded;
 use plan::Reading;
 use prepare::Prepared;
 
 // Room for the numbers of evidence.
 const EVIDENCE: usize = 6;
 
-// A call on plan bytes that has no room for its further values: the reader's refusal, or 9.
-fn no_room(plan: &[u8]) -> u32
-    ensures { λ r. ⌜ r ≡ noRoom (planChecks (now (plan .entry))) ⌝ }
+// A call on plan bytes that has no room for its further values: the refusal of what is asked, or 9.
+fn no_room(plan: &[u8], party: u32) -> u32
+    ensures { λ r. ⌜ r ≡ noRoom (askedChecks (now (plan .entry)) party) ⌝ }
 {
-    let reading = plan::read(plan);
-    match reading {
-        Reading::Refused(r) => REFUSED + r as u32,
-        Reading::Counts {
+    let mut sets = [0u64; semiautomata::MAX_SETS];
+    let loaded = plan::load(plan, party, &mut sets);
+    match loaded {
+        Loaded::Refused(r) => REFUSED + r as u32,
+        Loaded::Plan {
             n: _,
             m: _,
             p: _,
             e: _,
+            starts: _,
         } => REFUSED + 9,
     }
 }
@@ -43,7 +46,7 @@ pub fn read(plan: &[u8], counts: &mut [u32]) -> u32
     ensures { λ r. ⌜ PassesReading (now (plan .entry)) r (now (counts .entry)) (now (counts .exit)) ⌝ }
 {
     if counts.len() < 3 {
-        return no_room(plan);
+        return no_room(plan, 0);
     }
     let reading = plan::read(plan);
     match reading {
@@ -74,35 +77,41 @@ fn pass_prepared(prepared: Prepared, evidence: &mut [u32]) -> u32
 }
 
 // Preparing: k; further, under 15, the six numbers of the evidence.
-pub fn prepare(plan: &[u8], table: &mut [u64], letters: &mut [u8], evidence: &mut [u32]) -> u32
-    ensures { λ r. ⌜ PassesPrepared (asked (now (plan .entry))) r (now (table .entry)) (now (table .exit)) (now (letters .entry))
+pub fn prepare(
+    plan: &[u8],
+    party: u32,
+    table: &mut [u64],
+    letters: &mut [u8],
+    evidence: &mut [u32],
+) -> u32
+    ensures { λ r. ⌜ PassesPrepared (asked (now (plan .entry)) party) r (now (table .entry)) (now (table .exit)) (now (letters .entry))
         (now (letters .exit)) (now (evidence .entry)) (now (evidence .exit)) ⌝ }
 {
     if evidence.len() < EVIDENCE {
-        return no_room(plan);
+        return no_room(plan, party);
     }
-    let prepared = prepare::prepare(plan, table, letters);
+    let prepared = prepare::prepare(plan, party, table, letters);
     pass_prepared(prepared, evidence)
 }
 
 // The count call, which answers as preparing does.
-pub fn look_ahead(plan: &[u8], letters: &mut [u8], evidence: &mut [u32]) -> u32
-    ensures { λ r. ⌜ PassesCount (asked (now (plan .entry))) r (now (letters .entry)) (now (letters .exit)) (now (evidence .entry))
+pub fn look_ahead(plan: &[u8], party: u32, letters: &mut [u8], evidence: &mut [u32]) -> u32
+    ensures { λ r. ⌜ PassesCount (asked (now (plan .entry)) party) r (now (letters .entry)) (now (letters .exit)) (now (evidence .entry))
         (now (evidence .exit)) ⌝ }
 {
     if evidence.len() < EVIDENCE {
-        return no_room(plan);
+        return no_room(plan, party);
     }
-    let counted = prepare::count(plan, letters);
+    let counted = prepare::count(plan, party, letters);
     pass_prepared(counted, evidence)
 }
 
-// The drawing program's entry: the look-ahead, or the refusal, with no lent buffer.
+// The drawing program's entry: the look-ahead for party 0, or the refusal, with no lent buffer.
 pub fn count(plan: &[u8]) -> u32
-    ensures { λ r. ⌜ Draws (asked (now (plan .entry))) r ⌝ }
+    ensures { λ r. ⌜ Draws (asked (now (plan .entry)) 0) r ⌝ }
 {
     let mut letters = [0u8; semiautomata::MAX_EVIDENCE];
-    let counted = prepare::count(plan, &mut letters);
+    let counted = prepare::count(plan, 0, &mut letters);
     match counted {
         Prepared::Ready(k) => k as u32,
         Prepared::Refused(r) => REFUSED + r as u32,
@@ -132,10 +141,10 @@ fn claim_of(claim: &[u32]) -> Evidence
 }
 
 // The check of a claim: 1 for yes, 0 for no.
-pub fn check(plan: &[u8], claim: &[u32], letters: &[u8]) -> u32
-    ensures { λ r. ⌜ PassesCheck (asked (now (plan .entry))) (now (claim .entry)) (now (letters .entry)) r ⌝ }
+pub fn check(plan: &[u8], party: u32, claim: &[u32], letters: &[u8]) -> u32
+    ensures { λ r. ⌜ PassesCheck (asked (now (plan .entry)) party) (now (claim .entry)) (now (letters .entry)) r ⌝ }
 {
-    let checked = claim::check(plan, claim_of(claim), letters);
+    let checked = claim::check(plan, party, claim_of(claim), letters);
     match checked {
         Checked::Yes => 1,
         Checked::No => 0,
@@ -155,10 +164,10 @@ pub fn write(plan: &[u8], out: &mut [u8]) -> u32
 }
 
 // The need of each critical set: how many numbers.
-pub fn needs(plan: &[u8], needs: &mut [u16]) -> u32
-    ensures { λ r. ⌜ PassesNeeds (asked (now (plan .entry))) r (now (needs .entry)) (now (needs .exit)) ⌝ }
+pub fn needs(plan: &[u8], party: u32, needs: &mut [u16]) -> u32
+    ensures { λ r. ⌜ PassesNeeds (asked (now (plan .entry)) party) r (now (needs .entry)) (now (needs .exit)) ⌝ }
 {
-    let told = needs::of_plan(plan, needs);
+    let told = needs::of_plan(plan, party, needs);
     match told {
         Needs::Entries(count) => count as u32,
         Needs::Refused(r) => REFUSED + r as u32,
@@ -166,14 +175,14 @@ pub fn needs(plan: &[u8], needs: &mut [u16]) -> u32
 }
 
 // The page of the needs: 0; further how many bytes.
-pub fn page(plan: &[u8], page: &mut [u8], length: &mut [u64]) -> u32
-    ensures { λ r. ⌜ PassesPage (asked (now (plan .entry))) r (now (page .entry)) (now (page .exit)) (now (length .entry))
+pub fn page(plan: &[u8], party: u32, page: &mut [u8], length: &mut [u64]) -> u32
+    ensures { λ r. ⌜ PassesPage (asked (now (plan .entry)) party) r (now (page .entry)) (now (page .exit)) (now (length .entry))
         (now (length .exit)) ⌝ }
 {
     if length.len() < 1 {
-        return no_room(plan);
+        return no_room(plan, party);
     }
-    let paged = pages::of_plan(plan, page);
+    let paged = pages::of_plan(plan, party, page);
     match paged {
         Page::Bytes(count) => {
             length[0] = count as u64;

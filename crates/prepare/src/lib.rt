@@ -57,13 +57,13 @@ fn prepare_loaded(
     }
 }
 
-// Preparing: the plan's table, with its look-ahead, into the lent numbers.
-pub fn prepare(plan: &[u8], table: &mut [u64], letters: &mut [u8]) -> Prepared
-    ensures { λ r. ⌜ Prepares (asked (now (plan .entry))) r (now (table .entry)) (now (table .exit)) (now (letters .entry))
+// Preparing: the plan's table for a party, with its look-ahead, into the lent numbers.
+pub fn prepare(plan: &[u8], party: u32, table: &mut [u64], letters: &mut [u8]) -> Prepared
+    ensures { λ r. ⌜ Prepares (asked (now (plan .entry)) party) r (now (table .entry)) (now (table .exit)) (now (letters .entry))
         (now (letters .exit)) ⌝ }
 {
     let mut sets = [0u64; semiautomata::MAX_SETS];
-    let loaded = plan::load(plan, &mut sets);
+    let loaded = plan::load(plan, party, &mut sets);
     match loaded {
         Loaded::Refused(r) => Prepared::Refused(r),
         Loaded::Plan {
@@ -76,12 +76,12 @@ pub fn prepare(plan: &[u8], table: &mut [u64], letters: &mut [u8]) -> Prepared
     }
 }
 
-// The count call: the look-ahead of a plan, without a table.
-pub fn count(plan: &[u8], letters: &mut [u8]) -> Prepared
-    ensures { λ r. ⌜ CountsTo (asked (now (plan .entry))) r (now (letters .entry)) (now (letters .exit)) ⌝ }
+// The count call: the look-ahead of a plan for a party, without a table.
+pub fn count(plan: &[u8], party: u32, letters: &mut [u8]) -> Prepared
+    ensures { λ r. ⌜ CountsTo (asked (now (plan .entry)) party) r (now (letters .entry)) (now (letters .exit)) ⌝ }
 {
     let mut sets = [0u64; semiautomata::MAX_SETS];
-    let loaded = plan::load(plan, &mut sets);
+    let loaded = plan::load(plan, party, &mut sets);
     match loaded {
         Loaded::Refused(number) => Prepared::Refused(number),
         Loaded::Plan {

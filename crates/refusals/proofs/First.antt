@@ -1,13 +1,13 @@
 -- Laws of the first check of a list that applies.
 -- Assumes nothing.
 use Prim.Native.Nat.{ℕ, _≤_}
-use mathlib.Core.Bool.{Bool, true, false, cond, and-eq-true-iff}
-use mathlib.Core.Path.{_≡_, refl}
+use mathlib.Core.Bool.{Bool, true, false, not, cond, _&&_, and-eq-true-iff}
+use mathlib.Core.Path.{_≡_, refl, sym}
 use mathlib.Core.Logic.{_↔_}
 use mathlib.Core.List.{List, [], _∷_, _++_}
 use native.Mathlib.Omega.{arith}
-use lib.Dec.{leb}
-use borrow.Author.Tests.{leb-true, le-leb}
+use lib.Dec.{eqb, leb}
+use borrow.Author.Tests.{leb-true, le-leb, eqb-false, not-true}
 use Rattle.refusals.specs.Checks.{Check, firstOf, within, Numbered}
 
 -- no check applies
@@ -90,3 +90,18 @@ numbered-up b c h [] _ = refl
 numbered-up b c h (x ∷ cs) n =
     let s = split b x cs n in
     rw (le-leb 1 (x .number) (s .low), le-leb (x .number) c (omega (arith, s .high)), numbered-up b c h cs (s .rest))
+
+-- a number that no check of a list has is not that of its first
+abbrev pub lacks : ℕ → List Check → Bool
+lacks x [] = true
+lacks x (c ∷ cs) = not (eqb (c .number) x) && lacks x cs
+
+pub first-other : (x : ℕ) → ¬ (x ≡ 0) → (cs : List Check) → lacks x cs ≡ true → ¬ (firstOf cs ≡ x)
+first-other x n [] _ e = n (sym e)
+first-other x n (c ∷ cs) l e =
+    let (a, r) = and-eq-true-iff (not (eqb (c .number) x)) _ .0 l in
+    go (c .applies) (eqb-false (c .number) x (not-true _ a)) (first-other x n cs r) e
+  where
+    go : (b : Bool) → ¬ (c .number ≡ x) → ¬ (firstOf cs ≡ x) → ¬ (cond b (c .number) (firstOf cs) ≡ x)
+    go true h _ e = h e
+    go false _ h e = h e

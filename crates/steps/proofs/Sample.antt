@@ -22,7 +22,7 @@ use Rattle.prepare.proofs.Answers.{sized-reads}
 use Rattle.records.specs.Bytes.{tidy}
 use Rattle.predictor.specs.Calls.{openedOn, fedOn}
 use Rattle.samples.specs.Plans.{bytes, A as sample-A, B as sample-B}
-use Rattle.samples.proofs.Plans.{samples-hold}
+use Rattle.samples.proofs.Plans.{as-said-well, samples-hold}
 use Rattle.text.specs.declared.Printed.the-variants.{Going, Ended}
 use Rattle.steps.specs.declared.Stage.the-variants.{Plan, Letters}
 use Rattle.slices.specs.Appending.{Appended}
@@ -62,13 +62,13 @@ abbrev A : List ℕ
 A = bytes sample-A
 
 w : WellFormed A
-w = samples-hold .0 .well-formed
+w = as-said-well (samples-hold .0)
 
 -- its table, and the record opened and after each letter
 abbrev table : List ℕ
 table = 3 ∷ 1 ∷ 1 ∷ 1 ∷ 2 ∷ 6 ∷ 0 ∷ replicate 2045 0
 
-is-laid : table ≡ laidOut (contents (meaning A) 1) zeroTable
+is-laid : table ≡ laidOut (contents (meaning A 0) 1) zeroTable
 unfolding flatMap setOf any
 is-laid = refl
 
@@ -111,7 +111,7 @@ is-plan = refl
 begun : (r : ℕ) × (out : List ℕ) × Begins A zeroTable zeroRecord (Going r) table r1 lines out
 begun =
     let L = samples-hold .0 .ahead in
-    let t = sized-reads (well-formed-sized A w) L zeroTable is-laid in
+    let t = sized-reads (well-formed-sized A w 0) L zeroTable is-laid in
     let long = counts-width 3 1 1 3 (omega arith) (omega arith) (omega arith) (omega arith) in
     let put1 = puts lines 0 (countsLine 3 1 1 3) (omega (arith, long)) in
     let put2 = puts-on put1 (lookaheadLine 1) (omega (arith, long, lookahead-width 1 (omega arith))) in
@@ -176,7 +176,7 @@ abbrev B : List ℕ
 B = bytes sample-B
 
 b-read : outcomeOfReading (Counts 2 1 1 3) ≡ reading B
-b-read = rw (samples-hold .1 .0 .well-formed)
+b-read = rw (as-said-well (samples-hold .1 .0))
 
 b-plan : noPlan B ≡ false
 unfolding noPlan

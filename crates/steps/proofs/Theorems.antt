@@ -12,7 +12,7 @@ use Rattle.streaming.specs.PlainWalk.{limit, stateAt, plainReply, plainFeed}
 use Rattle.streaming.specs.Demand3.{followed}
 use Rattle.streaming.specs.Streaming.{unresolved}
 use Rattle.semiautomata.proofs.Shares.{lookahead-unique, lookahead-predicts}
-use Rattle.samples.proofs.Plans.{samples-hold}
+use Rattle.samples.proofs.Plans.{as-said-well, samples-hold}
 use Rattle.slices.specs.Appending.{each}
 use Rattle.decimals.specs.Decimals.{digits, decimal}
 use Rattle.lines.specs.Lines.{field, countsLine, lookaheadLine, refusedLine, resolutionLine, openLine}
@@ -56,7 +56,7 @@ one-report (well-formed _ _ a) (well-formed _ _ b) = rw (one-counted a b)
 
 sample-printed : Reports sampleInput sampleText
 unfolding noPlan digits decimal field countsLine lookaheadLine resolutionLine each openLine openLines openText walkText plainText limit stateAt plainReply plainFeed followed unresolved possible walkable spells step any least has setOf
-sample-printed = let a = samples-hold .0 in well-formed refl (a .well-formed) (predicts 1 (a .ahead) (walked 0 refl))
+sample-printed = let a = samples-hold .0 in well-formed refl (as-said-well a) (predicts 1 (a .ahead) (walked 0 refl))
 
 sample-run : Runs (Plan 0 16) [] zeroTable zeroRecord sampleInput sampleText
 sample-run =
@@ -67,7 +67,7 @@ sample-run =
 
 refused-printed : Reports refusedSample refusedText
 unfolding noPlan digits decimal field countsLine refusedLine
-refused-printed = let b = samples-hold .1 .0 in well-formed refl (b .well-formed) (never (b .ahead))
+refused-printed = let b = samples-hold .1 .0 in well-formed refl (as-said-well b) (never (b .ahead))
 
 refused-run : Runs (Plan 0 16) [] zeroTable zeroRecord refusedSample refusedText
 refused-run =

@@ -11,7 +11,7 @@ use Rattle.semiautomata.specs.Semiautomaton.{Semiautomaton}
 use Rattle.semiautomata.specs.Predictability.{Lookahead, Unpredictable}
 use Rattle.plan.specs.declared.Reading.the-variants.{Counts, Refused}
 use Rattle.plan.specs.Bytes.{headerOf, meaning, asked, refusal, PlanCounts, outcomeOfReading, reading, WellFormed}
-use Rattle.plan.proofs.Refusals.{well-formed-range, asked-proper}
+use Rattle.plan.proofs.Refusals.{well-formed-range, asked-proper, asked-zero}
 use Rattle.table.specs.Table.{lookaheadOf, tableMeaning, contents}
 use Rattle.table.proofs.Form.{Reads}
 use Rattle.prepare.specs.Preparing.{prepareRefusal}
@@ -55,12 +55,12 @@ lays-last says {a = a} p is = record { text = a; put = p; follows = λ letters. 
 
 -- the buffers are long enough for every plan
 pub prepare-taken : (plan : List ℕ) → WellFormed plan → (table letters : ℕ) → tableSize ≤ table → 4096 ≤ letters
-    → prepareRefusal (asked plan) table letters ≡ 0
+    → prepareRefusal (asked plan 0) table letters ≡ 0
 prepare-taken plan w table letters a b =
     let r = well-formed-range plan w in
     let cells : headerOf plan .n * headerOf plan .m ≤ 2048 =
     le-trans (mul-le-mul-right (headerOf plan .m) (r .n-high)) (mul-le-mul-left 64 (r .m-high)) in
-    prepare-clear (asked plan) (asked-proper plan) w letters (omega arith) (omega (arith, square (r .n-high)))
+    prepare-clear (asked plan 0) (asked-proper plan 0) (asked-zero plan ∙ w) letters (omega arith) (omega (arith, square (r .n-high)))
 
 module _ {S : Semiautomaton} {old : List ℕ} {at : ℕ} where
   pub counted : {k : ℕ} {table : List ℕ} → Lookahead S k → Reads (contents S k) table → {r : ℕ} {mid : List ℕ}
@@ -82,7 +82,7 @@ module _ (input : List ℕ) (e : noPlan input ≡ false) (rest : List ℕ) where
   same-letters : inputLetters (input ++ rest) ≡ inputLetters input ++ rest
   same-letters = rw (same-total input e rest) (drop-append-le (totalOf input) input rest (whole input e .there))
 
-  report-well : WellFormed (planOf input) → (text : List ℕ) → AfterCounts (meaning (planOf input)) (inputLetters input ++ rest) text
+  report-well : WellFormed (planOf input) → (text : List ℕ) → AfterCounts (meaning (planOf input) 0) (inputLetters input ++ rest) text
       → Reports (input ++ rest) (countsOf (headerOf (planOf input)) ++ text)
   report-well w text a =
       let same = same-plan input e rest in
@@ -117,7 +117,7 @@ module _ (input : List ℕ) {old : List ℕ} where
 
     module _ {n m s l : ℕ} (d : outcomeOfReading (Counts n m s l) ≡ reading (planOf input)) {at : ℕ} {mid : List ℕ}
         (p : Appended old 0 (countsLine n m s l) at mid) where
-      begun : {r : ℕ} {out : List ℕ} {later : List ℕ → List ℕ} → Laid (AfterCounts (meaning (planOf input))) mid at r out later
+      begun : {r : ℕ} {out : List ℕ} {later : List ℕ → List ℕ} → Laid (AfterCounts (meaning (planOf input) 0)) mid at r out later
           → Laid (ReportText input) old 0 r out (λ rest. later (inputLetters input ++ rest))
       begun {later = later} a =
           let (w, is) = read-counts (planOf input) d in
@@ -130,8 +130,8 @@ module _ (input : List ℕ) {old : List ℕ} where
           }
 
       pub begun-well : (printed : Printed) (table bytes table′ left out : List ℕ) → Roomy table bytes old
-          → Lays (AfterCounts (meaning (planOf input))) mid at printed out table′ left
-          → Leaves (meaning (planOf input)) table bytes (over printed) table′ left → Begins input table bytes printed table′ left old out
+          → Lays (AfterCounts (meaning (planOf input) 0)) mid at printed out table′ left
+          → Leaves (meaning (planOf input) 0) table bytes (over printed) table′ left → Begins input table bytes printed table′ left old out
       begun-well (Going q) table bytes table′ left out lent a l = (lent, read e (read-well (planOf input) d) l, begun a)
       begun-well (Ended q) table bytes table′ left out lent a l = (lent, read e (read-well (planOf input) d) l, begun a)
       begun-well Short table bytes table′ left out lent a l = absurd a

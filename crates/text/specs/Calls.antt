@@ -116,11 +116,11 @@ pub data Leaves (S : Semiautomaton) (table bytes : List ℕ) (isOver : Bool) (ta
       → isRefusal (openedOn table′ bytes .reply) ≡ isOver
       → Leaves S table bytes isOver table′ left
 
--- What an input leaves in them: as they were where 1 to 7 apply.
+-- What an input leaves in them: as they were where one of 1 to 7 and 16 applies.
 pub data LeavesOf (input table bytes : List ℕ) (isOver : Bool) (table′ left : List ℕ) : Type 0 where
   unread : (noPlan input ≡ true) ⊎ ¬ WellFormed (planOf input) → isOver ≡ true → table′ ≡ table → left ≡ bytes
       → LeavesOf input table bytes isOver table′ left
-  read : noPlan input ≡ false → WellFormed (planOf input) → Leaves (meaning (planOf input)) table bytes isOver table′ left
+  read : noPlan input ≡ false → WellFormed (planOf input) → Leaves (meaning (planOf input) 0) table bytes isOver table′ left
       → LeavesOf input table bytes isOver table′ left
 
 -- The first bytes of an input tell whether it has a plan: refusal 1 of them is one of the whole.

@@ -67,10 +67,10 @@ pub data AfterCounts (S : Semiautomaton) (letters : List ℕ) : List ℕ → Typ
 abbrev pub countsOf : Header → List ℕ
 countsOf h = countsLine (h .n) (h .m) (h .p) (h .e)
 
--- What is printed of an input: a refusal of 1 to 7 as the only line, or the counts and what comes after them.
+-- What is printed of an input: a refusal of 1 to 7 or 16 as the only line, or the counts and what comes after them.
 pub data Reports (input : List ℕ) : List ℕ → Type 0 where
   no-plan : noPlan input ≡ true → Reports input (refusedLine 1)
   ill-formed : noPlan input ≡ false → ¬ WellFormed (planOf input) → Reports input (refusedLine (refusal (planOf input)))
   well-formed : noPlan input ≡ false → WellFormed (planOf input) → {text : List ℕ}
-      → AfterCounts (meaning (planOf input)) (inputLetters input) text
+      → AfterCounts (meaning (planOf input) 0) (inputLetters input) text
       → Reports input (countsOf (headerOf (planOf input)) ++ text)

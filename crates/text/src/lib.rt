@@ -65,12 +65,12 @@ fn opened(table: &[u64], rec: &mut [u8], out: &mut [u8], at: usize) -> Printed
 fn prepared(plan: &[u8], table: &mut [u64], rec: &mut [u8], out: &mut [u8], at: usize) -> Printed
     requires { ⌜ WellFormed (now plan) × (tableSize ≤ length (now table)) × (recordSize ≤ length (now rec))
         × (at + 56 ≤ length (now out)) ⌝ }
-    ensures { λ r. ⌜ Lays (AfterCounts (meaning (now (plan .entry)))) (now (out .entry)) at r (now (out .exit)) (now (table .exit))
-        (now (rec .exit)) × Leaves (meaning (now (plan .entry))) (now (table .entry)) (now (rec .entry)) (over r) (now (table .exit))
+    ensures { λ r. ⌜ Lays (AfterCounts (meaning (now (plan .entry)) 0)) (now (out .entry)) at r (now (out .exit)) (now (table .exit))
+        (now (rec .exit)) × Leaves (meaning (now (plan .entry)) 0) (now (table .entry)) (now (rec .entry)) (over r) (now (table .exit))
         (now (rec .exit)) ⌝ }
 {
     let mut letters = [0u8; semiautomata::MAX_EVIDENCE];
-    let prepared = prepare::prepare(plan, table, &mut letters);
+    let prepared = prepare::prepare(plan, 0, table, &mut letters);
     match prepared {
         Prepared::Ready(k) => {
             let end = lines::lookahead(out, at, k);

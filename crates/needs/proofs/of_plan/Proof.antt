@@ -1,11 +1,10 @@
 -- `of_plan` meets its contract.
 -- Assumes nothing.
-use Prim.Native.Nat.{ℕ}
 use mathlib.Core.Path.{sym}
-use mathlib.Core.List.{List}
 use native.Mathlib.Omega.{arith}
 use denote.Ref.{now}
 use borrow.Author.Needs.{needs}
+use Rattle.plan.specs.Asked.{Asked, Proper}
 use Rattle.plan.specs.Bytes.{asked}
 use Rattle.plan.proofs.Refusals.{asked-proper}
 use Rattle.semiautomata.proofs.Places.{blank, size-le}
@@ -13,8 +12,11 @@ use Rattle.needs.proofs.Answering.{needs-unread, needs-short, needs-fil
 use Rattle.needs.proofs.of_plan.Statement.{statement}
 use Rattle.needs.proofs.of_plan.Tie as tie
 
-abbrev plan : tie.After-load → List ℕ
-plan c = now (c .before .before .before .before .args .plan)
+abbrev A : tie.After-load → Asked
+A c = let s = c .before .before .before .before in asked (now (s .args .plan)) (s .args .party)
+
+abbrev P : (c : tie.After-load) → Proper (A c)
+P c = let s = c .before .before .before .before in asked-proper (now (s .args .plan)) (s .args .party)
 
 pub of-plan-spec : {M : Type 1} → statement M
 of-plan-spec =
@@ -36,7 +38,7 @@ of-plan-spec =
     (λ c.
     let l = c .before .before in
     let (w, h, _, _) = rw (l .loaded2 .given .1) at (l .before .before .load .ensures) in
-    needs-short (asked (plan (l .before .before))) (asked-proper (plan (l .before .before))) w h (c .if1 .taken))
+    needs-short (A (l .before .before)) (P (l .before .before)) w h (c .if1 .taken))
     (λ c.
     let l = c .before .before .before .before in
     sym ((rw (l .loaded2 .given .1) at (l .before .before .load .ensures)) .3))
@@ -50,11 +52,11 @@ of-plan-spec =
     (λ c.
     let l = c .before .before .before in
     let (e, n) = rw (c .before .loaded .given .1) at (l .load .ensures) in
-    needs-unread (asked (plan l)) (asked-proper (plan l)) e n)
+    needs-unread (A l) (P l) e n)
     (λ c. search needs)
     (λ c.
     let k = c .before .before in
     let e = k .before .before .before in
     let l = e .before .before in
     let (w, h, _, _) = rw (l .loaded2 .given .1) at (l .before .before .load .ensures) in
-    needs-filled (asked (plan (l .before .before))) (asked-proper (plan (l .before .before))) w h (e .if1 .left) (k .enter .ensures)))
+    needs-filled (A (l .before .before)) (P (l .before .before)) w h (e .if1 .left) (k .enter .ensures)))

@@ -27,7 +27,7 @@ plan c = ap (λ (x : ℕ). take x (start c .args .input .now)) (c .total .ensure
 
 -- .. and its page is what is answered
 paged : (c : tie.After-of-plan) → let s = start (c .before .before .before) in
-    PageOf (asked (planOf (s .args .input .now))) (c .of-plan .result) (s .args .out .now) (c .of-plan .last .1 .0)
+    PageOf (asked (planOf (s .args .input .now)) 0) (c .of-plan .result) (s .args .out .now) (c .of-plan .last .1 .1 .0)
 paged c = rw (plan (c .before .before .before)) at (c .of-plan .ensures)
 
 refused-requires-2 : tie.Need-refused-requires-2

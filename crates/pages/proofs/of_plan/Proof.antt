@@ -1,10 +1,9 @@
 -- `of_plan` meets its contract.
 -- Assumes nothing.
-use Prim.Native.Nat.{ℕ}
 use mathlib.Core.Path.{sym}
-use mathlib.Core.List.{List}
 use denote.Ref.{now}
 use borrow.Author.Needs.{needs}
+use Rattle.plan.specs.Asked.{Asked, Proper}
 use Rattle.plan.specs.Bytes.{asked}
 use Rattle.plan.proofs.Refusals.{asked-proper}
 use Rattle.semiautomata.proofs.Places.{blank}
@@ -12,8 +11,11 @@ use Rattle.pages.proofs.Answering.{page-unread, page-of}
 use Rattle.pages.proofs.of_plan.Statement.{statement}
 use Rattle.pages.proofs.of_plan.Tie as tie
 
-abbrev plan : tie.After-load → List ℕ
-plan c = now (c .before .before .before .before .args .plan)
+abbrev A : tie.After-load → Asked
+A c = let s = c .before .before .before .before in asked (now (s .args .plan)) (s .args .party)
+
+abbrev P : (c : tie.After-load) → Proper (A c)
+P c = let s = c .before .before .before .before in asked-proper (now (s .args .plan)) (s .args .party)
 
 pub of-plan-spec : {M : Type 1} → statement M
 of-plan-spec =
@@ -34,10 +36,10 @@ of-plan-spec =
     (λ c.
     let l = c .before .before .before in
     let (e, n) = rw (c .before .loaded .given .1) at (l .load .ensures) in
-    page-unread (asked (plan l)) (asked-proper (plan l)) e n)
+    page-unread (A l) (P l) e n)
     (λ c. search needs)
     (λ c.
     let s = c .before .before in
     let l = s .before .before .before .before in
     let (w, h, _, _) = rw (l .loaded2 .given .1) at (l .before .before .load .ensures) in
-    page-of (asked (plan (l .before .before))) (asked-proper (plan (l .before .before))) w h (s .of-sets .ensures)))
+    page-of (A (l .before .before)) (P (l .before .before)) w h (s .of-sets .ensures)))

@@ -13,14 +13,14 @@ returns : tie.Need-returns
 returns c =
     let start = c .before .before .before .before .before .before .before in
     let a = start .args in
-    passes-check (asked (a .plan .now)) (a .claim .now) (a .letters .now) (c .before .before .before .claim-of .ensures)
+    passes-check (asked (a .plan .now) (a .party)) (a .claim .now) (a .letters .now) (c .before .before .before .claim-of .ensures)
     (c .before .before .check .result) (c .before .before .check .ensures) (rw (c .enum-told .given .1))
 
 returns-2 : tie.Need-returns-2
 returns-2 c =
     let start = c .before .before .before .before .before .before .before in
     let a = start .args in
-    passes-check (asked (a .plan .now)) (a .claim .now) (a .letters .now) (c .before .before .before .claim-of .ensures)
+    passes-check (asked (a .plan .now) (a .party)) (a .claim .now) (a .letters .now) (c .before .before .before .claim-of .ensures)
     (c .before .before .check .result) (c .before .before .check .ensures) (rw (c .enum-told2 .given .1))
 
 returns-3 : tie.Need-returns-3
@@ -28,7 +28,7 @@ returns-3 c =
     let at-claim-of = c .before .before .before .before in
     let start = at-claim-of .before .before .before .before in
     let a = start .args in
-    passes-check (asked (a .plan .now)) (a .claim .now) (a .letters .now) (at-claim-of .claim-of .ensures)
+    passes-check (asked (a .plan .now) (a .party)) (a .claim .now) (a .letters .now) (at-claim-of .claim-of .ensures)
     (c .before .before .before .check .result) (c .before .before .before .check .ensures) (rw (c .before .checked .given .1))
 
 pub check-spec : {M : Type 1} → statement M

@@ -20,7 +20,7 @@ cast-result c =
     let n = c .before .before .before .before in
     let p = now (n .before .before .before .args .plan) in
     let ((q, a), _) = rw (c .before .counted .given .1) at (n .count .ensures) in
-    omega (arith, small (asked-proper p .sized (clear-passes (asked p) (asked-proper p) _ q)) _ a)
+    omega (arith, small (asked-proper p 0 .sized (clear-passes (asked p 0) (asked-proper p 0) _ q)) _ a)
 
 enum-told : tie.Need-enum-told
 enum-told c = search needs
@@ -30,21 +30,21 @@ returns c =
     let n = c .before .before .before .before in
     let p = now (n .before .before .before .args .plan) in
     let ((q, a), _) = rw (c .before .counted .given .1) at (n .count .ensures) in
-    record { outcome = answered _; looks-ahead = (clear-passes (asked p) (asked-proper p) _ q, a); is = refl }
+    record { outcome = answered _; looks-ahead = (clear-passes (asked p 0) (asked-proper p 0) _ q, a); is = refl }
 
 returns-2 : tie.Need-returns-2
 returns-2 c =
     let n = c .before .before .before .before in
     let p = now (n .before .before .before .args .plan) in
-    let (a, z, _) = count-refused-so (asked p) (asked-proper p) (rw (c .before .counted2 .given .1) at (n .count .ensures)) in
-    record { outcome = refused _; looks-ahead = inl (count-refuses (asked p) (asked-proper p) a z .0, z); is = refl }
+    let (a, z, _) = count-refused-so (asked p 0) (asked-proper p 0) (rw (c .before .counted2 .given .1) at (n .count .ensures)) in
+    record { outcome = refused _; looks-ahead = inl (count-refuses (asked p 0) (asked-proper p 0) a z .0, z); is = refl }
 
 returns-3 : tie.Need-returns-3
 returns-3 c =
     let n = c .before .before .before in
     let p = now (n .before .before .before .args .plan) in
-    let (q, s) = count-never-so (asked p) (asked-proper p) (rw (c .enum-told .given .1) at (n .count .ensures)) in
-    record { outcome = refused 15; looks-ahead = inr (clear-passes (asked p) (asked-proper p) _ q, refl, shown-never s); is = refl }
+    let (q, s) = count-never-so (asked p 0) (asked-proper p 0) (rw (c .enum-told .given .1) at (n .count .ensures)) in
+    record { outcome = refused 15; looks-ahead = inr (clear-passes (asked p 0) (asked-proper p 0) _ q, refl, shown-never s); is = refl }
 
 pub count-spec : {M : Type 1} → statement M
 count-spec =

@@ -16,8 +16,8 @@ returns c = refuses (omega arith) (c .no-room .ensures) refl refl
 pass-prepared-requires : tie.Need-pass-prepared-requires
 pass-prepared-requires c κs =
     let start = c .before .before .before .before .before .before .before .before .before in (
-      counts-fit (asked (start .args .plan .now))
-          (asked-proper (start .args .plan .now))
+      counts-fit (asked (start .args .plan .now) (start .args .party))
+          (asked-proper (start .args .plan .now) (start .args .party))
           (c .before .before .before .count .result)
           (start .args .letters .now) _
           (c .before .before .before .count .ensures),

@@ -11,7 +11,7 @@ use Rattle.plan_calls.proofs.needs.Tie as tie
 cast-result : tie.Need-cast-result
 cast-result c =
     let w = c .before .before .before .before .before in
-    omega (arith, needs-few _ (asked-proper _) _ _ _ (rw (c .before .told .given .1) at (w .of-plan .ensures)))
+    omega (arith, needs-few _ (asked-proper _ _) _ _ _ (rw (c .before .told .given .1) at (w .of-plan .ensures)))
 
 returns : tie.Need-returns
 returns c =

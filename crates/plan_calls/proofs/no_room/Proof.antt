@@ -1,34 +1,39 @@
 -- `no_room` meets its contract.
 -- Assumes nothing.
-use Rattle.plan_calls.proofs.Rooms.{no-room-refused, no-room-read}
+use Rattle.semiautomata.proofs.Places.{blank}
+use Rattle.plan.specs.Bytes.{asked}
+use Rattle.plan.proofs.Refusals.{asked-proper}
+use Rattle.plan_calls.proofs.Rooms.{no-room-refused, no-room-passed}
 use borrow.Author.Needs.{needs}
 use Rattle.plan_calls.proofs.no_room.Statement.{statement}
 use Rattle.plan_calls.proofs.no_room.Tie as tie
 
-enum-told : tie.Need-enum-told
-enum-told c = search needs
+abbrev start : tie.After-load → tie.Start
+start c = c .before .before .before
 
 returns : tie.Need-returns
 returns c =
-    let start = c .before .before .before .before .before in
-    no-room-refused (start .args .plan .now)
-    (rw (c .before .reading .given .1) at (c .before .before .before .read .ensures))
+    let l = c .before .before .before in
+    let a = start l .args in
+    let (e, n) = rw (c .before .loaded .given .1) at (l .load .ensures) in
+    no-room-refused (asked (a .plan .now) (a .party)) (asked-proper (a .plan .now) (a .party)) e n
 
 returns-2 : tie.Need-returns-2
 returns-2 c =
-    let start = c .before .before .before .before in
-    no-room-read (start .args .plan .now)
-    (rw (c .enum-told .given .1) at (c .before .before .read .ensures))
+    let l = c .before .before in
+    let a = start l .args in
+    let (w, _, _, _) = rw (c .enum-told .given .1) at (l .load .ensures) in
+    no-room-passed (asked (a .plan .now) (a .party)) (asked-proper (a .plan .now) (a .party)) w
 
 pub no-room-spec : {M : Type 1} → statement M
 no-room-spec =
     tie.close
     (tie.spec
-    (λ c κs. search needs)
+    (λ c κs. blank _)
     (λ c. search needs)
     (λ c. search needs)
     (λ c. search needs)
-    enum-told
+    (λ c. search needs)
     (λ c. search needs)
     returns
     returns-2)

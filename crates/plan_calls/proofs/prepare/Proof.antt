@@ -17,8 +17,8 @@ pass-prepared-requires : tie.Need-pass-prepared-requires
 pass-prepared-requires c κs =
     let at-prepare-5 = c .before .before .before .before .before in
     let start = at-prepare-5 .before .before .before .before .before .before .before .before in (
-      prepares-fit (asked (start .args .plan .now)) (asked-proper (start .args .plan .now)) (at-prepare-5 .prepare .result)
-          (start .args .table .now) _ (start .args .letters .now) _ (at-prepare-5 .prepare .ensures),
+      prepares-fit (asked (start .args .plan .now) (start .args .party)) (asked-proper (start .args .plan .now) (start .args .party))
+          (at-prepare-5 .prepare .result) (start .args .table .now) _ (start .args .letters .now) _ (at-prepare-5 .prepare .ensures),
       omega arith,
     )
 

@@ -1,14 +1,15 @@
 -- `read` meets its contract.
 -- Assumes nothing.
-use mathlib.Core.Path.{refl}
+use mathlib.Core.Path.{refl, _∙_}
 use native.Mathlib.Omega.{arith}
 use Rattle.numbers.specs.Numbers.{answers, refuses}
 use borrow.Author.Needs.{needs}
+use Rattle.plan_calls.proofs.Rooms.{no-room-zero}
 use Rattle.plan_calls.proofs.read.Statement.{statement}
 use Rattle.plan_calls.proofs.read.Tie as tie
 
 returns : tie.Need-returns
-returns c = refuses (omega arith) (c .no-room .ensures) refl tt
+returns c = refuses (omega arith) (c .no-room .ensures ∙ no-room-zero _) refl tt
 
 returns-2 : tie.Need-returns-2
 returns-2 c = answers (omega arith) (c .before .before .before .read .result) (c .before .before .before .read .ensures)

@@ -25,17 +25,17 @@ abbrev start : tie.After-prepared → tie.Start
 start c = c .before .before .before .before .before .before .before .before .before .before .before .before
 
 abbrev table : tie.After-prepared → List ℕ
-table c = c .before .before .before .before .before .prepare .last .1 .0
+table c = c .before .before .before .before .before .prepare .last .1 .1 .0
 
 ready : (c : tie.After-prepared) → let a = start c .args in let k = c .prepared .given .0 .0 in
-    Lookahead (meaning (a .plan .now)) k × (table c ≡ laidOut (contents (meaning (a .plan .now)) k) (a .table .now))
+    Lookahead (meaning (a .plan .now) 0) k × (table c ≡ laidOut (contents (meaning (a .plan .now) 0) k) (a .table .now))
 ready c =
     let at-prepare = c .before .before .before .before .before in
     let ((_, l), t, _) = rw (c .prepared .given .1) at (at-prepare .prepare .ensures) in (l, t)
 
-reads : (c : tie.After-prepared) → Reads (contents (meaning (start c .args .plan .now)) (c .prepared .given .0 .0)) (table c)
+reads : (c : tie.After-prepared) → Reads (contents (meaning (start c .args .plan .now) 0) (c .prepared .given .0 .0)) (table c)
 reads c = let s = start c in let (l, t) = ready c in
-    sized-reads (well-formed-sized (s .args .plan .now) (s .pre .0)) l (s .args .table .now) t
+    sized-reads (well-formed-sized (s .args .plan .now) (s .pre .0) 0) l (s .args .table .now) t
 
 lookahead-requires : tie.Need-lookahead-requires
 lookahead-requires c κs =
@@ -118,7 +118,7 @@ returns-2 c =
     let at-prepare = at-prepared2 .before .before .before .before .before in
     let back-17 = at-prepare .before .before .before .before .before .before .before in
     let s = back-17 in
-    let (e, n, _, _) = prepare-refused-so (asked (s .args .plan .now)) (asked-proper (s .args .plan .now))
+    let (e, n, _, _) = prepare-refused-so (asked (s .args .plan .now) 0) (asked-proper (s .args .plan .now) 0)
     (rw (at-prepared2 .prepared2 .given .1) at
     (at-prepare .prepare .ensures)) in
     absurd (n (e ∙ prepare-taken (s .args .plan .now) (s .pre .0) (length (s .args .table .now)) 4096 (s .pre .1) (omega arith)))

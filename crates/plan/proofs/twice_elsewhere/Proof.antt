@@ -1,0 +1,58 @@
+-- `plan::twice_elsewhere` meets its contract. Between two turns the parties before this one are looked at.
+-- Assumes nothing.
+use Prim.Native.Nat.{_+_, _-_, _≤_}
+use mathlib.Core.Bool.{false, not, _&&_}
+use mathlib.Core.Logic.{⊎-elim}
+use mathlib.Core.Path.{_≡_, refl, _∙_}
+use denote.Ref.{now}
+use native.Mathlib.Omega.{arith}
+use lib.Dec.{eqb}
+use borrow.Author.Needs.{needs}
+use Rattle.bitset.specs.Sets.{any}
+use Rattle.plan.specs.Plan.{lineOff}
+use Rattle.plan.specs.Bytes.{parsedBy}
+use Rattle.plan.specs.inner.Steps.{twiceOf}
+use Rattle.plan.proofs.Parting.{elsewhere-next, elsewhere-same}
+use Rattle.plan.proofs.twice_elsewhere.Statement.{statement}
+use Rattle.plan.proofs.twice_elsewhere.Tie as tie
+
+abbrev Inv-loop : tie.InvT-loop
+Inv-loop plan h party highest twice₀ other₀ end twice other =
+    (other ≤ end)
+    × (lineOff (parsedBy h plan) ≡ false → twice ≡ any other (λ q. not (eqb q party) && twiceOf (parsedBy h plan) q))
+
+abbrev μ-loop : tie.MeasureT-loop
+μ-loop plan h party highest twice₀ other₀ end twice other = end - other
+
+loop-holds : tie.Need-loop-holds Inv-loop μ-loop
+unfolding any
+loop-holds c = (search needs, λ _. refl)
+
+loop-again : tie.Need-loop-again Inv-loop μ-loop
+loop-again c =
+    let l = c .before .before in
+    let a = l .before .before .args in
+    let found = twiceOf (parsedBy (a .h) (now (a .plan))) in (
+      search needs,
+      λ off. ⊎-elim
+          (λ w. w .2 ∙ elsewhere-next (a .party) found (l .loop .inv .1 off) (w .0 .taken) (w .1 .ensures off))
+          (λ w. w .1 ∙ elsewhere-same (a .party) found (l .loop .inv .1 off) (w .0 .left))
+          (c .if1 .came),
+    )
+
+returns : tie.Need-returns Inv-loop μ-loop
+returns c = let e : c .before .loop .other ≡ c .before .before .before .args .highest + 1 = omega arith in rw e at (c .before .loop .inv .1)
+
+pub twice-elsewhere-spec : {M : Type 1} → statement M
+twice-elsewhere-spec =
+    tie.close
+    (tie.spec
+    Inv-loop
+    μ-loop
+    (λ c. search needs)
+    loop-holds
+    (λ c κs. c .before .before .before .before .pre)
+    (λ c. search needs)
+    (λ c. search needs)
+    loop-again
+    returns)
