@@ -144,12 +144,12 @@ static inline uint32_t gawherino_refusal(uint32_t answer)
 
 /* Bytes of stack that a call took at most where conformance/stack.sh measured it, rounded up; the greatest of them. Where memcpy, memmove
  * or memset is bound at its first call, the dynamic linker's stack comes on top. */
-#define GAWHERINO_STACK_READ 16640u
+#define GAWHERINO_STACK_READ 33280u
 #define GAWHERINO_STACK_PREPARE 45056u
 #define GAWHERINO_STACK_LOOK_AHEAD 45056u
 #define GAWHERINO_STACK_COUNT 49152u
-#define GAWHERINO_STACK_CHECK 16896u
-#define GAWHERINO_STACK_WRITE 16640u
+#define GAWHERINO_STACK_CHECK 33280u
+#define GAWHERINO_STACK_WRITE 35328u
 #define GAWHERINO_STACK_NEEDS 44544u
 #define GAWHERINO_STACK_PAGE 48640u
 #define GAWHERINO_STACK_STEP 256u
@@ -167,7 +167,7 @@ static inline uint32_t gawherino_refusal(uint32_t answer)
  *
  * A plan is bytes: documents 01 and 02 and README.md have their layout. One plan may be laid out in many ways; gawherino_write puts it into
  * one form. In edition 2 each line belongs to a party, and a call that names one uses that party's lines alone, with the starts and counts
- * of all; for a plan of edition 1, whose lines belong to none, party 0 is named. A party without lines is fine.
+ * of all; in edition 1 all lines are party 0's. A party without lines is fine. A table does not say whose it is.
  *
  * A table is 64-bit numbers: n, m, k, the starts, then at 4 + stake * m + code the set of stakes that the code leads to. They stand in the
  * machine's own byte order: keep the plan, and prepare it again on each machine, by the same version of this library.
@@ -187,7 +187,7 @@ static inline uint32_t gawherino_refusal(uint32_t answer)
 /* Reading a plan: n; into counts (3): m, p and e, of all parties. Refused with 1 to 7, 16, 9. */
 uint32_t gawherino_read(const uint8_t *plan, size_t plan_len, uint32_t *counts, size_t counts_len);
 
-/* Preparing a plan for a party, any number: k, and its table (4 + n * m numbers). Refused with 1 to 7, 16, 9, 15.
+/* Preparing a plan for a party: k, and its table (4 + n * m numbers). Refused with 1 to 7, 16, 9, 15.
  * A critical set counts if it is the set of starts, or what a code leads to from a stake that some walk from a start reaches: stakes that
  * no walk reaches any more neither raise k nor cause 15.
  * Under 15, into evidence (6): the critical set's stake and code, stakes s and t, the lengths of the lead-in and of the loop; and into
@@ -202,7 +202,7 @@ uint32_t gawherino_look_ahead(const uint8_t *plan, size_t plan_len, uint32_t par
 /* The drawing program's entry: k for party 0, with no lent buffer. Refused with 1 to 7, 16, 15. */
 uint32_t gawherino_count(const uint8_t *plan, size_t plan_len);
 
-/* The check of a claim for a party, given as evidence is: 1 for yes, 0 for no; a claim of fewer than six numbers is no, and numbers past the
+/* The check of a claim for a party, given as evidence is: 1 for yes, 0 for no; a claim of fewer than six numbers is no, numbers past the
  * sixth are not read; a claim that names the critical set of a stake that no walk of the party reaches is no. Refused with 1 to 7, 16. */
 uint32_t gawherino_check(const uint8_t *plan, size_t plan_len, uint32_t party, const uint32_t *claim, size_t claim_len,
                          const uint8_t *letters, size_t letters_len);
@@ -215,7 +215,7 @@ uint32_t gawherino_write(const uint8_t *plan, size_t plan_len, uint8_t *out, siz
 /* The need of each critical set by itself, for a party: how many numbers it wrote, n * m + 1; into needs: at 0 that of the starts, at
  * 1 + stake * m + code that of what the code leads to from the stake. A need is the least k for which no two different stakes of the set
  * can be walked on from by the same k codes: 0 for a set of one stake, never more than 2,016. 65,535 is a set that has none, 65,534 one
- * that is empty, the starts too, or does not count (a fork of a stake that no walk reaches). If no number is 65,535, the plan's k is the
+ * that is empty, the starts too, or does not count (a fork of a stake that no walk reaches). If no number is 65,535, the party's k is the
  * largest of those other than 65,534, or 0 if there is no other; else preparing and the count answer 15, lent slices being long enough.
  * Refused with 1 to 7, 16, 9, and never with 15. */
 uint32_t gawherino_needs(const uint8_t *plan, size_t plan_len, uint32_t party, uint16_t *needs, size_t needs_len);

@@ -128,7 +128,7 @@ partyRows =
     ∷ []
 
 -- Of each sample whose look-ahead is 1 or more a walk is shown with two or more states at a position that exactly k - 1 letters follow
--- (W-203): of A at position 3, of the others at 0.
+-- (W-203): of A and of T₀ at position 3, of the others at 0.
 abbrev pub rows : List Row
 rows =
     row A (

@@ -2,7 +2,7 @@
 -- Assumes nothing.
 use Prim.Native.Nat.{ℕ, suc, _+_, _*_, _^_, _%_, _/_, _≤_, _<_, max}
 use mathlib.Core.Bool.{Bool, true, false, not, _&&_, _||_, true≢false, and-true, and-false, or-true, or-false, or-assoc}
-use mathlib.Core.Path.{_≡_, refl, sym, _∙_}
+use mathlib.Core.Path.{_≡_, refl, sym, _∙_, subst}
 use mathlib.Core.Logic.{_⊎_, inl, inr}
 use mathlib.Core.List.{List}
 use native.Mathlib.Omega.{arith}
@@ -14,11 +14,11 @@ use lib.ListN.{length, getD, set, length-set}
 use lib.Seq.{getD-set-same, getD-set-other}
 use lib.Bits.{bitAnd, bitOr, or-lt}
 use lib.Pow.{pow-lt, pow-pos}
-use borrow.Author.Tests.{lt-ltb, ltb-true, ltb-false, lt-leb, leb-false, eqb-true, eq-eqb, not-true, not-false}
+use borrow.Author.Tests.{lt-ltb, ltb-true, ltb-false, lt-leb, leb-false, eqb-true, eq-eqb, ne-eqb, not-true, not-false}
 use Rattle.bitset.specs.Sets.{any, single}
 use Rattle.bitset.specs.Numbers.{has, setOf}
 use Rattle.bitset.proofs.Tests.{decided, not-so, or-none, same-test}
-use Rattle.bitset.proofs.Below.{any-none}
+use Rattle.bitset.proofs.Below.{any-none, any-not}
 use Rattle.bitset.proofs.Bits.{has-or, has-and, has-empty, has-setOf, has-insert, has-test, shl-one, same-members}
 use Rattle.semiautomata.specs.Sizes.{maxSets}
 use Rattle.semiautomata.specs.Successors.{place, Blank}
@@ -26,7 +26,7 @@ use Rattle.semiautomata.proofs.Successors.{place-lt}
 use Rattle.semiautomata.proofs.Places.{size-le, place-same}
 use Rattle.plan.specs.declared.Line.{Line}
 use Rattle.plan.specs.Plan.{Plan, says, isStart, semiautomaton, maxParty, twice, startHigh, startOff, lineFits, lineOff, partyHigh}
-use Rattle.plan.specs.inner.Steps.{StartsEntered, LinesEntered}
+use Rattle.plan.specs.inner.Steps.{StartsEntered, twiceOf, LinesEntered}
 use Rattle.plan.proofs.Tests.{not-and, not-ltb}
 use Rattle.plan.proofs.Plan.{says-is}
 
@@ -104,7 +104,7 @@ linePlace P l = place (P .m) (l .from) (l .letter)
 abbrev withLine : Plan → Line → List ℕ → List ℕ
 withLine P l sets = set sets (linePlace P l) (bitOr (getD sets (linePlace P l) 0) ((1 * 2 ^ l .to) % 2 ^ 64))
 
-off-test : (P : Plan) (l : Line) → offTest P l ≡ not (lineFits P l)
+pub off-test : (P : Plan) (l : Line) → offTest P l ≡ not (lineFits P l)
 off-test P l = simp (not-and, not-ltb, or-assoc)
 
 line-fits : (P : Plan) (l : Line) → offTest P l ≡ false → (l .from < P .n) × (l .letter < P .m) × (l .to < P .n)
@@ -255,3 +255,43 @@ module _ (P : Plan) (party : ℕ) (states : P .n ≤ 64) (letters : P .m ≤ 32)
           highest = high;
         })
     read-next = rw (larger, is) (lines-next P party states letters w (rw is at e))
+
+-- LINES OF ANOTHER PARTY, where 6 does not apply: they are entered too, and no highest party is kept
+pub record Sought (P : Plan) (party : ℕ) (sets : List ℕ) (again : Bool) : Type 0 where
+  pub highest : ℕ
+  pub entered : LinesEntered P party sets (record { off = false; twice = again; highest = highest })
+
+pub sought-none : (P : Plan) (party : ℕ) {sets : List ℕ} → Blank maxSets sets → Sought (linesTo 0 P) party sets false
+sought-none P party b = record { highest = 0; entered = lines-none P party b }
+
+pub sought-all : {P : Plan} {party : ℕ} {sets : List ℕ} {again : Bool} → Sought P party sets again → again ≡ twiceOf P party
+sought-all s = s .entered .twice-is refl
+
+module _ (P : Plan) (party : ℕ) (states : P .n ≤ 64) (letters : P .m ≤ 32) (none-off : lineOff P ≡ false) {i : ℕ} (g : i < P .e)
+    {sets : List ℕ} {again : Bool} (s : Sought (linesTo i P) party sets again) {l : Line} (is : l ≡ P .line i) where
+  on-plan : offTest P l ≡ false
+  on-plan = rw is (off-test P (P .line i) ∙ any-not (P .e) (λ i. not (lineFits P (P .line i))) none-off i g)
+
+  -- what is so with the line's test of its numbers is so without
+  untested : {sets : List ℕ} {again : Bool} {high : ℕ}
+      → LinesEntered (linesTo (i + 1) P) party sets (record { off = offTest P l; twice = again; highest = high })
+      → Sought (linesTo (i + 1) P) party sets again
+  untested {sets} {again} {high} e = record {
+    highest = high;
+    entered =
+        subst (λ (b : Bool). LinesEntered (linesTo (i + 1) P) party sets (record { off = b; twice = again; highest = high })) on-plan e;
+  }
+
+  pub sought-over : ¬ (l .party ≡ party) → Sought (linesTo (i + 1) P) party sets again
+  sought-over n = untested (read-over P party states letters (s .entered) is refl (rw (on-plan, ne-eqb (l .party) party n)))
+
+  module _ (e : l .party ≡ party) where
+    here : passedOver P party l ≡ false
+    here = rw (on-plan, eq-eqb (l .party) party e)
+
+    pub sought-place : (linePlace P l < 2048) × (l .to < 64)
+    sought-place = read-place P party states letters (s .entered) is refl here
+
+    pub sought-next : Sought (linesTo (i + 1) P) party (withLine P l sets)
+        (again || eqb (bitAnd (getD sets (linePlace P l) 0 / 2 ^ l .to) 1) 1)
+    sought-next = untested (read-next P party states letters (s .entered) is refl here)

@@ -1,6 +1,6 @@
 -- The theorems of specs/Parties.antt.
 -- Assumes nothing.
-use Prim.Native.Nat.{ℕ, zero, suc, _<_}
+use Prim.Native.Nat.{ℕ, zero, suc, _≤_, _<_}
 use mathlib.Core.Bool.{Bool, true, false, not, _&&_, _||_, true≢false, or-false}
 use mathlib.Core.Path.{_≡_, refl, sym, _∙_, fun-ext}
 use mathlib.Core.Logic.{_↔_}
@@ -8,17 +8,19 @@ use mathlib.Core.List.{List, [], _∷_}
 use native.Mathlib.Omega.{arith}
 use lib.Dec.{eqb, ltb}
 use lib.ListN.{length}
-use borrow.Author.Tests.{eqb-true, not-false}
+use borrow.Author.Tests.{eqb-true, not-false, ltb-false, le-ltb}
 use Rattle.bitset.proofs.Tests.{not-so, or-none}
 use Rattle.bitset.proofs.Below.{any-none}
 use Rattle.semiautomata.specs.Semiautomaton.{Semiautomaton, Path}
 use Rattle.semiautomata.specs.Predictability.{Critical, initial, fork, Counts, Share, Clash, member, Rivals, Lookahead}
-use Rattle.plan.specs.Plan.{Plan, semiautomaton, maxParty}
-use Rattle.plan.specs.Asked.{Passes}
-use Rattle.plan.specs.Bytes.{headerOf, parsed, meaning, asked, WellFormed}
+use Rattle.plan.specs.Plan.{Plan, semiautomaton, maxParty, partyOff}
+use Rattle.refusals.specs.Groups.{lastRefusal}
+use Rattle.refusals.proofs.First.{first-behind, first-before}
+use Rattle.plan.specs.Asked.{refusalOf, Passes}
+use Rattle.plan.specs.Bytes.{headerOf, parsed, meaning, planChecks, askedChecks, asked, refusal, WellFormed}
 use Rattle.plan.specs.Parties.{Alone, Lineless, Theorems}
 use Rattle.plan.proofs.Plan.{says-is}
-use Rattle.plan.proofs.Refusals.{asked-passes, asked-zero}
+use Rattle.plan.proofs.Refusals.{plan-numbered, named, asked-passes, asked-zero}
 
 -- WITHOUT LINES
 
@@ -65,10 +67,28 @@ module _ (plan : List ℕ) (party : ℕ) where
         λ (w, z). back (w, rw (z, e)),
       )
 
+  passes-2 : headerOf plan .edition ≡ 2 → Passes (asked plan party) ↔ (WellFormed plan × (party ≤ maxParty))
+  passes-2 e =
+      let (out, back) = asked-passes plan party in (
+        (λ p. let (w, off) = out p in (w, ltb-false maxParty party (or-none (ltb maxParty party) _ off .0))),
+        λ (w, few). back (w, rw (e, le-ltb maxParty party few)),
+      )
+
+  bytes-first : ¬ WellFormed plan → refusalOf (asked plan party) ≡ refusal plan
+  unfolding refusalOf askedChecks
+  bytes-first n = first-before (planChecks plan) (named plan party ∷ []) n
+
+  then-16 : WellFormed plan → partyOff (headerOf plan .edition) party ≡ true → refusalOf (asked plan party) ≡ 16
+  unfolding refusalOf askedChecks
+  then-16 w off = first-behind lastRefusal (planChecks plan) (named plan party ∷ []) (plan-numbered plan) w ∙ rw off
+
 pub theorems : (plan : List ℕ) (party : ℕ) → Theorems plan party
 theorems plan party = record {
   passes = asked-passes plan party;
   passes-1 = passes-1 plan party;
+  passes-2 = passes-2 plan party;
+  bytes-first = bytes-first plan party;
+  then-16 = then-16 plan party;
   zero = asked-zero plan;
   alone = λ other a i. record {
     n = a .n i;
@@ -77,6 +97,6 @@ theorems plan party = record {
     edge = fun-ext (λ s. fun-ext (λ b. fun-ext (λ t. a .lines s b t))) i;
   };
   no-edge = no-edge (parsed plan) party;
-  lineless-one = λ none. one (meaning plan party) (no-edge (parsed plan) party none);
-  lineless-two = λ none. two (meaning plan party) (no-edge (parsed plan) party none);
+  lineless-single = λ none. one (meaning plan party) (no-edge (parsed plan) party none);
+  lineless-several = λ none. two (meaning plan party) (no-edge (parsed plan) party none);
 }

@@ -1,4 +1,4 @@
--- A plan as document 01 speaks of it, read off its bytes or written down, and the semiautomaton that it means.
+-- A plan as documents 01 and 02 (W-207: parties) speak of it, read off its bytes or written down, and the semiautomaton that it means.
 -- Assumes nothing.
 use Prim.Native.Nat.{ℕ}
 use mathlib.Core.Bool.{Bool, not, _&&_, _||_}

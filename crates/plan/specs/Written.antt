@@ -1,4 +1,4 @@
--- A plan as lists, as document 01 writes one down, and its bytes without gaps.
+-- A plan as lists, as document 01 writes one down, and its bytes without gaps, in either edition.
 -- Assumes nothing.
 use Prim.Native.Nat.{ℕ, _+_, _*_}
 use mathlib.Core.Bool.{cond}

@@ -190,7 +190,7 @@ fn line_at(plan: &[u8], at: usize, party: u8) -> Line
     }
 }
 
-// The line at a place of the list. Both editions have their width as a number, so that it is none to multiply by in a loop.
+// The line at a place of the list; each edition multiplies by a constant.
 pub fn line_of(plan: &[u8], h: Header, i: usize) -> Line
     requires { ⌜ Sound (now plan) h × (i < h .e) ⌝ }
     ensures { λ r. ⌜ r ≡ parsedBy h (now (plan .entry)) .line i ⌝ }
@@ -255,21 +255,34 @@ fn enter_lines(
     }
 }
 
-// Whether a line of the party stands twice, where 6 does not apply.
+// Whether a line of the party stands twice, where 6 does not apply. It has a loop of its own: so the one that loads has one caller and is
+// compiled into it, and a plan of edition 1 is read as fast as if there were no parties.
 fn twice_of(plan: &[u8], h: Header, party: u32) -> bool
-    requires { ⌜ Sound (now plan) h ⌝ }
-    ensures { λ r. ⌜ (lineOff (parsedBy h (now (plan .entry))) ≡ false → r ≡ twiceOf (parsedBy h (now (plan .entry))) party) ⌝ }
+    requires { ⌜ Sound (now plan) h × (lineOff (parsedBy h (now plan)) ≡ false) ⌝ }
+    ensures { λ r. ⌜ r ≡ twiceOf (parsedBy h (now (plan .entry))) party ⌝ }
 {
+    let m = h.m as usize;
+    let e = h.e as usize;
     let mut sets = [0u64; semiautomata::MAX_SETS];
-    let lines = enter_lines(plan, h, party, &mut sets);
-    lines.twice
+    let mut twice = false;
+    for i in 0..e {
+        let line = line_of(plan, h, i);
+        if line.party as u32 != party {
+            continue;
+        }
+        let place = line.from as usize * m + line.letter as usize;
+        let to = line.to as usize;
+        let set = sets[place];
+        twice = twice | ((set >> to) & 1 == 1);
+        sets[place] = set | (1 << to);
+    }
+    twice
 }
 
-// The same of any party up to the highest but one, whose lines are entered already.
+// The same of any party up to the highest, other than the one whose lines are entered already.
 fn twice_elsewhere(plan: &[u8], h: Header, party: u32, highest: u8) -> bool
-    requires { ⌜ Sound (now plan) h ⌝ }
-    ensures { λ r. ⌜ (lineOff (parsedBy h (now (plan .entry))) ≡ false
-        → r ≡ any (highest + 1) (λ q. not (eqb q party) && twiceOf (parsedBy h (now (plan .entry))) q)) ⌝ }
+    requires { ⌜ Sound (now plan) h × (lineOff (parsedBy h (now plan)) ≡ false) ⌝ }
+    ensures { λ r. ⌜ r ≡ any (highest + 1) (λ q. not (eqb q party) && twiceOf (parsedBy h (now (plan .entry))) q) ⌝ }
 {
     let mut twice = false;
     for other in 0..highest as u32 + 1 {
@@ -319,7 +332,11 @@ pub fn load(plan: &[u8], party: u32, sets: &mut [u64; semiautomata::MAX_SETS]) -
     }
     let starts = enter_starts(plan, h);
     let lines = enter_lines(plan, h, party, sets);
-    let elsewhere = twice_elsewhere(plan, h, party, lines.highest);
+    let elsewhere = if lines.off {
+        false
+    } else {
+        twice_elsewhere(plan, h, party, lines.highest)
+    };
     let refused = first_of_parts(
         starts.off,
         lines.off,

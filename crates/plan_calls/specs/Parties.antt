@@ -11,8 +11,8 @@ use Rattle.plan.specs.Parties.{Alone}
 use Rattle.plan_calls.specs.Promises.{PassesPrepared, PassesCount, PassesCheck, PassesNeeds, PassesPage}
 use Rattle.plan_calls.specs.Theorems.{AnswersAhead}
 
--- Whatever a call may answer and leave where A is asked, it may where B is, and the other way round: the same k or 15, table, evidence and
--- verdict on it, needs and page.
+-- Whatever a call may answer and leave where A is asked, it may where B is, and the other way round: the same k or 15, table, needs and
+-- page; and what is evidence for the one is evidence for the other.
 pub record SameCalls (A B : Asked) : Type 0 where
   pub preparing : (r : ℕ) (old table old′ letters old″ evidence : List ℕ)
       → PassesPrepared A r old table old′ letters old″ evidence ↔ PassesPrepared B r old table old′ letters old″ evidence

@@ -20,7 +20,8 @@ use Rattle.plan.specs.Asked.{refusalOf, Passes}
 use Rattle.plan.specs.Bytes.{parsed, meaning, planChecks, askedChecks, asked, WellFormed}
 use Rattle.plan.specs.Parties.{Alone}
 use Rattle.plan.proofs.Refusals.{asked-passes, asked-proper}
-use Rattle.samples.specs.Plans.{Sample, bytes, A, T₀, samples, Turned, refusalOfTurned, refusals, Ahead, ReadBack, AsSaid, All, Theorems}
+use Rattle.samples.specs.Plans.{Sample, bytes, A, T₀, samples, Turned, refusalOfTurned, refusals}
+use Rattle.samples.specs.Plans.{Ahead, ReadBack, AsSaid, All, Theorems}
 
 -- the test of a look-ahead: no clash at k, one at k - 1; or one at n × n
 abbrev pub ahead : Semiautomaton → Option ℕ → Bool
@@ -64,7 +65,13 @@ samples-pass = refl
 abbrev back : Sample → Listed
 back s =
     let plan = parsed (bytes s) in
-    record { edition = plan .edition; n = plan .n; m = plan .m; starts = map (plan .start) (range 0 (plan .p)); lines = map (plan .line) (range 0 (plan .e)) }
+    record {
+      edition = plan .edition;
+      n = plan .n;
+      m = plan .m;
+      starts = map (plan .start) (range 0 (plan .p));
+      lines = map (plan .line) (range 0 (plan .e));
+    }
 
 read-back : (ss : List Sample) → map back ss ≡ map (λ (s : Sample). s .plan) ss → AllRead ss
 read-back [] e = tt

@@ -80,7 +80,7 @@ D′ = sample 2 2 (1 ∷ []) (line1 0 0 0 ∷ line1 0 0 1 ∷ []) (some 0)
 
 -- EDITION 2
 
--- party 0 walks plan A's lines and party 1 plan B's; party 2 has none
+-- T, of two parties: party 0 walks plan A's lines and party 1 plan B's; party 2 has none
 abbrev pub ofTwo : Listed
 ofTwo = record {
   edition = 2;
@@ -99,7 +99,8 @@ T₁ = forParty ofTwo 1 none
 abbrev pub T₂ : Sample
 T₂ = forParty ofTwo 2 (some 0)
 
--- two lines differ in their party alone; for party 7 both starts can go on for ever, for party 0 only one of them can go on at all
+-- S, the same but for the party: two lines differ in it alone; for party 7 both starts can go on for ever, for party 0 only one of them
+-- can go on at all
 abbrev pub inPartyAlone : Listed
 inPartyAlone = record { edition = 2; n = 2; m = 1; starts = 0 ∷ 1 ∷ []; lines = line 0 0 0 7 ∷ line 0 0 0 0 ∷ line 1 0 0 7 ∷ [] }
 

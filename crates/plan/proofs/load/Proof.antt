@@ -1,10 +1,18 @@
 -- `plan::load` meets its contract.
 -- Assumes nothing.
-use mathlib.Core.Path.{sym, _∙_}
+use Prim.Native.Nat.{_+_}
+use mathlib.Core.Bool.{false, not, _&&_, true≢false}
+use mathlib.Core.Logic.{⊎-elim}
+use mathlib.Core.Path.{_≡_, sym, _∙_}
 use native.Mathlib.Omega.{arith}
 use denote.Ref.{now}
 use borrow.Author.Needs.{needs}
+use lib.Dec.{eqb}
+use Rattle.bitset.specs.Sets.{any}
+use Rattle.plan.specs.Plan.{lineOff}
+use Rattle.plan.specs.Bytes.{parsedBy}
 use Rattle.plan.specs.Loading.{Sound}
+use Rattle.plan.specs.inner.Steps.{twiceOf}
 use Rattle.plan.proofs.Refusals.{refused-short, header-clear}
 use Rattle.plan.proofs.Loading.{loads-header, loads-refused, loads-plan}
 use Rattle.plan.proofs.load.Statement.{statement}
@@ -28,6 +36,14 @@ enter-starts-requires c κs = sound c
 enter-lines-requires : tie.Need-enter-lines-requires
 enter-lines-requires c κs = let e = c .before .before in (sound e, start e .pre)
 
+-- whether a line of another party stands twice is looked for where 6 does not apply
+others : (c : tie.Joined3) → let l = c .before in let s = start (l .before .before .before) in
+    let P = parsedBy (l .before .before .before .before .before .header-of .result) (now (s .args .plan)) in
+    lineOff P ≡ false → c .if3 .elsewhere ≡ any (l .enter-lines .result .highest + 1) (λ q. not (eqb q (s .args .party)) && twiceOf P q)
+others c fits =
+    ⊎-elim (λ w. absurd (true≢false (sym (w .0 .taken) ∙ c .before .enter-lines .ensures .off-is ∙ fits))) (λ w. w .2 ∙ w .1 .ensures)
+    (c .if3 .came)
+
 -- what is found is the first of the checks on the parts
 returns-3 : tie.Need-returns-3
 returns-3 c =
@@ -36,8 +52,8 @@ returns-3 c =
     let l = o .before in
     let e = l .before .before .before in
     loads-refused _ _ (e .before .before .header-of .ensures) (e .before .header-refusal .ensures) (e .if2 .left)
-    (l .before .before .enter-starts .ensures) (l .enter-lines .ensures) (o .twice-elsewhere .ensures) (p .party-off .ensures)
-    (c .before .first-of-parts .ensures) (c .if3 .taken)
+    (l .before .before .enter-starts .ensures) (l .enter-lines .ensures) (others o) (p .party-off .ensures)
+    (c .before .first-of-parts .ensures) (c .if4 .taken)
 
 returns-4 : tie.Need-returns-4
 returns-4 c =
@@ -46,8 +62,8 @@ returns-4 c =
     let l = o .before in
     let e = l .before .before .before in
     loads-plan _ _ (e .before .before .header-of .ensures) (e .before .header-refusal .ensures) (e .if2 .left)
-    (l .before .before .enter-starts .ensures) (l .enter-lines .ensures) (o .twice-elsewhere .ensures) (p .party-off .ensures)
-    (c .before .first-of-parts .ensures) (c .if3 .left)
+    (l .before .before .enter-starts .ensures) (l .enter-lines .ensures) (others o) (p .party-off .ensures)
+    (c .before .first-of-parts .ensures) (c .if4 .left)
 
 pub load-spec : {M : Type 1} → statement M
 load-spec =
@@ -59,7 +75,7 @@ load-spec =
     returns-2
     enter-starts-requires
     enter-lines-requires
-    (λ c κs. sound (c .before .before .before))
+    (λ c κs. let l = c .before in (sound (l .before .before .before), sym (l .enter-lines .ensures .off-is) ∙ c .if3 .left))
     (λ c κs. search needs)
     (λ c κs. search needs)
     returns-3

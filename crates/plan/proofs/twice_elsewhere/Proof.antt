@@ -1,7 +1,7 @@
 -- `plan::twice_elsewhere` meets its contract. Between two turns the parties before this one are looked at.
 -- Assumes nothing.
 use Prim.Native.Nat.{_+_, _-_, _≤_}
-use mathlib.Core.Bool.{false, not, _&&_}
+use mathlib.Core.Bool.{not, _&&_}
 use mathlib.Core.Logic.{⊎-elim}
 use mathlib.Core.Path.{_≡_, refl, _∙_}
 use denote.Ref.{now}
@@ -9,7 +9,6 @@ use native.Mathlib.Omega.{arith}
 use lib.Dec.{eqb}
 use borrow.Author.Needs.{needs}
 use Rattle.bitset.specs.Sets.{any}
-use Rattle.plan.specs.Plan.{lineOff}
 use Rattle.plan.specs.Bytes.{parsedBy}
 use Rattle.plan.specs.inner.Steps.{twiceOf}
 use Rattle.plan.proofs.Parting.{elsewhere-next, elsewhere-same}
@@ -18,15 +17,14 @@ use Rattle.plan.proofs.twice_elsewhere.Tie as tie
 
 abbrev Inv-loop : tie.InvT-loop
 Inv-loop plan h party highest twice₀ other₀ end twice other =
-    (other ≤ end)
-    × (lineOff (parsedBy h plan) ≡ false → twice ≡ any other (λ q. not (eqb q party) && twiceOf (parsedBy h plan) q))
+    (other ≤ end) × (twice ≡ any other (λ q. not (eqb q party) && twiceOf (parsedBy h plan) q))
 
 abbrev μ-loop : tie.MeasureT-loop
 μ-loop plan h party highest twice₀ other₀ end twice other = end - other
 
 loop-holds : tie.Need-loop-holds Inv-loop μ-loop
 unfolding any
-loop-holds c = (search needs, λ _. refl)
+loop-holds c = (search needs, refl)
 
 loop-again : tie.Need-loop-again Inv-loop μ-loop
 loop-again c =
@@ -34,9 +32,9 @@ loop-again c =
     let a = l .before .before .args in
     let found = twiceOf (parsedBy (a .h) (now (a .plan))) in (
       search needs,
-      λ off. ⊎-elim
-          (λ w. w .2 ∙ elsewhere-next (a .party) found (l .loop .inv .1 off) (w .0 .taken) (w .1 .ensures off))
-          (λ w. w .1 ∙ elsewhere-same (a .party) found (l .loop .inv .1 off) (w .0 .left))
+      ⊎-elim
+          (λ w. w .2 ∙ elsewhere-next (a .party) found (l .loop .inv .1) (w .0 .taken) (w .1 .ensures))
+          (λ w. w .1 ∙ elsewhere-same (a .party) found (l .loop .inv .1) (w .0 .left))
           (c .if1 .came),
     )
 
