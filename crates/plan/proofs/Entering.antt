@@ -19,7 +19,7 @@ use Rattle.bitset.specs.Sets.{any, single}
 use Rattle.bitset.specs.Numbers.{has, setOf}
 use Rattle.bitset.proofs.Tests.{decided, not-so, or-none, same-test}
 use Rattle.bitset.proofs.Below.{any-none, any-not}
-use Rattle.bitset.proofs.Bits.{has-or, has-and, has-empty, has-setOf, has-insert, has-test, shl-one, same-members}
+use Rattle.bitset.proofs.Bits.{has-or, has-and, has-empty, has-setOf, has-insert, shl-one, same-members}
 use Rattle.semiautomata.specs.Sizes.{maxSets}
 use Rattle.semiautomata.specs.Successors.{place, Blank}
 use Rattle.semiautomata.proofs.Successors.{place-lt}
@@ -103,6 +103,24 @@ linePlace P l = place (P .m) (l .from) (l .letter)
 
 abbrev withLine : Plan → Line → List ℕ → List ℕ
 withLine P l sets = set sets (linePlace P l) (bitOr (getD sets (linePlace P l) 0) ((1 * 2 ^ l .to) % 2 ^ 64))
+
+-- the set stays the same with the line in it
+abbrev thereAlready : Plan → Line → List ℕ → Bool
+thereAlready P l sets = eqb (bitOr (getD sets (linePlace P l) 0) ((1 * 2 ^ l .to) % 2 ^ 64)) (getD sets (linePlace P l) 0)
+
+-- .. exactly if the state is there
+same-with : (v t : ℕ) → t < 64 → eqb (bitOr v ((1 * 2 ^ t) % 2 ^ 64)) v ≡ has v t
+same-with v t h = elim (decided (has v t)) [
+  | inl e ↦ rw e (eq-eqb _ _ (same-members _ _ (λ x. has-insert 64 v t x h ∙ stays e x (decided (eqb t x)))))
+  | inr e ↦ rw e (ne-eqb (bitOr v ((1 * 2 ^ t) % 2 ^ 64)) v (λ d.
+      let member : has (bitOr v ((1 * 2 ^ t) % 2 ^ 64)) t ≡ true = rw (has-insert 64 v t t h, e, eq-eqb t t refl) in
+      let out : has (bitOr v ((1 * 2 ^ t) % 2 ^ 64)) t ≡ false = rw d e in
+      true≢false (sym member ∙ out)))
+]
+  where
+    stays : has v t ≡ true → (x : ℕ) → (eqb t x ≡ true) ⊎ (eqb t x ≡ false) → (has v x || eqb t x) ≡ has v x
+    stays e x (inl d) = let is : t ≡ x = eqb-true t x d in rw (d, ← is, e)
+    stays e x (inr d) = rw (d, or-false)
 
 pub off-test : (P : Plan) (l : Line) → offTest P l ≡ not (lineFits P l)
 off-test P l = simp (not-and, not-ltb, or-assoc)
@@ -215,7 +233,7 @@ module _ (P : Plan) (party : ℕ) (states : P .n ≤ 64) (letters : P .m ≤ 32)
     lines-next : LinesEntered (linesTo (i + 1) P) party (withLine P l sets)
         (record {
           off = off || offTest P l;
-          twice = again || eqb (bitAnd (getD sets (linePlace P l) 0 / 2 ^ l .to) 1) 1;
+          twice = again || thereAlready P l sets;
           highest = max highest (l .party);
         })
     unfolding any
@@ -227,7 +245,7 @@ module _ (P : Plan) (party : ℕ) (states : P .n ≤ 64) (letters : P .m ≤ 32)
       twice-is = λ z.
           rw (
             w .twice-is (or-none off _ z .0),
-            has-test,
+            same-with _ (l .to) (place-in .1),
             w .edges _ _ (l .to) (fits .0) (fits .1) (fits .2),
             its-party,
             eqb-true (l .party) party its-party,
@@ -251,7 +269,7 @@ module _ (P : Plan) (party : ℕ) (states : P .n ≤ 64) (letters : P .m ≤ 32)
     pub read-next : LinesEntered (linesTo (i + 1) P) party (withLine P l sets)
         (record {
           off = off || offTest P l;
-          twice = again || eqb (bitAnd (getD sets (linePlace P l) 0 / 2 ^ l .to) 1) 1;
+          twice = again || thereAlready P l sets;
           highest = high;
         })
     read-next = rw (larger, is) (lines-next P party states letters w (rw is at e))
@@ -293,5 +311,5 @@ module _ (P : Plan) (party : ℕ) (states : P .n ≤ 64) (letters : P .m ≤ 32)
     sought-place = read-place P party states letters (s .entered) is refl here
 
     pub sought-next : Sought (linesTo (i + 1) P) party (withLine P l sets)
-        (again || eqb (bitAnd (getD sets (linePlace P l) 0 / 2 ^ l .to) 1) 1)
+        (again || thereAlready P l sets)
     sought-next = untested (read-next P party states letters (s .entered) is refl here)

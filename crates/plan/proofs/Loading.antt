@@ -23,8 +23,8 @@ use Rattle.plan.specs.declared.Lines.{Lines}
 use Rattle.plan.specs.declared.Loaded.the-variants as loaded
 use Rattle.plan.specs.Plan.{Plan, semiautomaton, maxParty, lineOff, partyHigh, partyOff}
 use Rattle.plan.specs.Asked.{refusalOf}
-use Rattle.plan.specs.Bytes.{headerOf, parsedBy, headerChecks, partChecks, asked, planCounts}
-use Rattle.plan.specs.Loading.{Holds, Loads}
+use Rattle.plan.specs.Bytes.{headerOf, parsedBy, parsed, headerChecks, partChecks, asked, planCounts}
+use Rattle.plan.specs.Loading.{Sound, Holds, Loads}
 use Rattle.plan.specs.inner.Steps.{StartsEntered, twiceOf, LinesEntered}
 use Rattle.semiautomata.proofs.Places.{size-le}
 use Rattle.plan.proofs.Refusals.{refused-header, refused-parts, well-formed-range, well-formed-within, asked-passes}
@@ -89,17 +89,21 @@ parts-found P party {s = s} {l = l} starts lines {elsewhere} off others = go (l 
 -- WHAT LOADING ANSWERS
 
 module _ (plan : List ℕ) (party : ℕ) {h : Header} (is : h ≡ headerOf plan) where
+  -- what the other parties' lines are looked at with
+  pub elsewhere-sound : Sound plan h → lineOff (parsedBy h plan) ≡ false → Sound plan (headerOf plan) × (lineOff (parsed plan) ≡ false)
+  elsewhere-sound s fits = (rw is at s, rw is at fits)
+
   pub loads-header : {r : ℕ} → r ≡ firstOf (headerChecks (length plan) h) → ¬ (r ≡ 0) → (r ≡ refusalOf (asked plan party)) × ¬ (r ≡ 0)
   loads-header e n = let e = rw is at e in (e ∙ refused-header plan party (λ z. n (e ∙ z)), n)
 
   module _ {r : ℕ} (e : r ≡ firstOf (headerChecks (length plan) h)) (z : r ≡ 0) {sets : List ℕ} {s : Starts} {l : Lines}
       (starts : StartsEntered (parsedBy h plan) s) (lines : LinesEntered (parsedBy h plan) party sets l) {elsewhere off : Bool}
       (others : lineOff (parsedBy h plan) ≡ false
-      → elsewhere ≡ any (l .highest + 1) (λ q. not (eqb q party) && twiceOf (parsedBy h plan) q))
+      → elsewhere ≡ any (l .highest + 1) (λ q. not (eqb q party) && twiceOf (parsed plan) q))
       (named-off : off ≡ partyOff (h .edition) party)
       {x : ℕ} (found : x ≡ firstFound (s .off) (l .off) (l .twice || elsewhere) (ltb maxParty (l .highest) || off)) where
     x-is : x ≡ firstOf (partChecks (parsedBy h plan) ++ (record { number = 16; applies = partyOff (h .edition) party } ∷ []))
-    x-is = rw (← named-off) (found ∙ parts-found (parsedBy h plan) party starts lines off others)
+    x-is = rw (← named-off) (found ∙ parts-found (parsedBy h plan) party starts lines off (λ fits. rw is (others fits)))
 
     x-refusal : x ≡ refusalOf (asked plan party)
     x-refusal = rw is at x-is ∙ refused-parts plan party (sym (rw is at e) ∙ z)

@@ -245,8 +245,9 @@ fn enter_lines(
         }
         let place = from * m + letter;
         let set = sets[place];
-        twice = twice | ((set >> to) & 1 == 1);
-        sets[place] = set | (1 << to);
+        let more = set | (1 << to);
+        twice = twice | (more == set);
+        sets[place] = more;
     }
     Lines {
         off,
@@ -264,7 +265,7 @@ fn twice_of(plan: &[u8], h: Header, party: u32) -> bool
     let m = h.m as usize;
     let e = h.e as usize;
     let mut sets = [0u64; semiautomata::MAX_SETS];
-    let mut twice = false;
+    let mut again = false;
     for i in 0..e {
         let line = line_of(plan, h, i);
         if line.party as u32 != party {
@@ -273,17 +274,20 @@ fn twice_of(plan: &[u8], h: Header, party: u32) -> bool
         let place = line.from as usize * m + line.letter as usize;
         let to = line.to as usize;
         let set = sets[place];
-        twice = twice | ((set >> to) & 1 == 1);
-        sets[place] = set | (1 << to);
+        let more = set | (1 << to);
+        again = again | (more == set);
+        sets[place] = more;
     }
-    twice
+    again
 }
 
-// The same of any party up to the highest, other than the one whose lines are entered already.
-fn twice_elsewhere(plan: &[u8], h: Header, party: u32, highest: u8) -> bool
-    requires { ⌜ Sound (now plan) h × (lineOff (parsedBy h (now plan)) ≡ false) ⌝ }
-    ensures { λ r. ⌜ r ≡ any (highest + 1) (λ q. not (eqb q party) && twiceOf (parsedBy h (now (plan .entry))) q) ⌝ }
+// The same of any party up to the highest, other than the one whose lines are entered already. The header is read anew: that leaves a
+// register to the loop that loads.
+fn twice_elsewhere(plan: &[u8], party: u32, highest: u8) -> bool
+    requires { ⌜ (16 ≤ length (now plan)) × Sound (now plan) (headerOf (now plan)) × (lineOff (parsed (now plan)) ≡ false) ⌝ }
+    ensures { λ r. ⌜ r ≡ any (highest + 1) (λ q. not (eqb q party) && twiceOf (parsed (now (plan .entry))) q) ⌝ }
 {
+    let h = header_of(plan);
     let mut twice = false;
     for other in 0..highest as u32 + 1 {
         if other != party {
@@ -335,7 +339,7 @@ pub fn load(plan: &[u8], party: u32, sets: &mut [u64; semiautomata::MAX_SETS]) -
     let elsewhere = if lines.off {
         false
     } else {
-        twice_elsewhere(plan, h, party, lines.highest)
+        twice_elsewhere(plan, party, lines.highest)
     };
     let refused = first_of_parts(
         starts.off,

@@ -97,7 +97,6 @@ enter-lines-spec =
     (λ c. omega (arith, inside (c .before)))
     (λ c. omega (arith, inside (c .before)))
     (λ c. omega (arith, inside (c .before)))
-    (λ c. omega (arith, inside (c .before)))
     (λ c. let i = read (c .before .before) .before in omega (arith, i .loop-test .taken, i .before .before .struct-known3 .given))
     (λ c. omega (arith, read (c .before .before) .before .loop-test .taken))
     loop-again-2

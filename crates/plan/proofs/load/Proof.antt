@@ -10,11 +10,11 @@ use borrow.Author.Needs.{needs}
 use lib.Dec.{eqb}
 use Rattle.bitset.specs.Sets.{any}
 use Rattle.plan.specs.Plan.{lineOff}
-use Rattle.plan.specs.Bytes.{parsedBy}
+use Rattle.plan.specs.Bytes.{parsedBy, parsed}
 use Rattle.plan.specs.Loading.{Sound}
 use Rattle.plan.specs.inner.Steps.{twiceOf}
 use Rattle.plan.proofs.Refusals.{refused-short, header-clear}
-use Rattle.plan.proofs.Loading.{loads-header, loads-refused, loads-plan}
+use Rattle.plan.proofs.Loading.{elsewhere-sound, loads-header, loads-refused, loads-plan}
 use Rattle.plan.proofs.load.Statement.{statement}
 use Rattle.plan.proofs.load.Tie as tie
 
@@ -36,13 +36,23 @@ enter-starts-requires c κs = sound c
 enter-lines-requires : tie.Need-enter-lines-requires
 enter-lines-requires c κs = let e = c .before .before in (sound e, start e .pre)
 
+twice-elsewhere-requires : tie.Need-twice-elsewhere-requires
+twice-elsewhere-requires c κs =
+    let l = c .before in
+    let e = l .before .before .before in
+    let h = e .before .before in
+    let (s, fits) = elsewhere-sound _ (start e .args .party) (h .header-of .ensures) (sound e)
+    (sym (l .enter-lines .ensures .off-is) ∙ c .if3 .left) in
+    (omega (arith, h .before .if1 .left), s, fits)
+
 -- whether a line of another party stands twice is looked for where 6 does not apply
 others : (c : tie.Joined3) → let l = c .before in let s = start (l .before .before .before) in
-    let P = parsedBy (l .before .before .before .before .before .header-of .result) (now (s .args .plan)) in
-    lineOff P ≡ false → c .if3 .elsewhere ≡ any (l .enter-lines .result .highest + 1) (λ q. not (eqb q (s .args .party)) && twiceOf P q)
+    lineOff (parsedBy (l .before .before .before .before .before .header-of .result) (now (s .args .plan))) ≡ false
+    → c .if3 .elsewhere
+    ≡ any (l .enter-lines .result .highest + 1) (λ q. not (eqb q (s .args .party)) && twiceOf (parsed (now (s .args .plan))) q)
 others c fits =
-    ⊎-elim (λ w. absurd (true≢false (sym (w .0 .taken) ∙ c .before .enter-lines .ensures .off-is ∙ fits))) (λ w. w .2 ∙ w .1 .ensures)
-    (c .if3 .came)
+    ⊎-elim (λ w. absurd (true≢false (sym (w .0 .taken) ∙ c .before .enter-lines .ensures .off-is ∙ fits)))
+    (λ w. w .2 ∙ w .1 .ensures) (c .if3 .came)
 
 -- what is found is the first of the checks on the parts
 returns-3 : tie.Need-returns-3
@@ -75,7 +85,7 @@ load-spec =
     returns-2
     enter-starts-requires
     enter-lines-requires
-    (λ c κs. let l = c .before in (sound (l .before .before .before), sym (l .enter-lines .ensures .off-is) ∙ c .if3 .left))
+    twice-elsewhere-requires
     (λ c κs. search needs)
     (λ c κs. search needs)
     returns-3

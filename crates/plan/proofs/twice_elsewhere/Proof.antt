@@ -9,18 +9,27 @@ use native.Mathlib.Omega.{arith}
 use lib.Dec.{eqb}
 use borrow.Author.Needs.{needs}
 use Rattle.bitset.specs.Sets.{any}
-use Rattle.plan.specs.Bytes.{parsedBy}
+use Rattle.plan.specs.Bytes.{parsed}
 use Rattle.plan.specs.inner.Steps.{twiceOf}
 use Rattle.plan.proofs.Parting.{elsewhere-next, elsewhere-same}
 use Rattle.plan.proofs.twice_elsewhere.Statement.{statement}
 use Rattle.plan.proofs.twice_elsewhere.Tie as tie
 
 abbrev Inv-loop : tie.InvT-loop
-Inv-loop plan h party highest twice₀ other₀ end twice other =
-    (other ≤ end) × (twice ≡ any other (λ q. not (eqb q party) && twiceOf (parsedBy h plan) q))
+Inv-loop plan party highest h twice₀ other₀ end twice other =
+    (other ≤ end) × (twice ≡ any other (λ q. not (eqb q party) && twiceOf (parsed plan) q))
 
 abbrev μ-loop : tie.MeasureT-loop
-μ-loop plan h party highest twice₀ other₀ end twice other = end - other
+μ-loop plan party highest h twice₀ other₀ end twice other = end - other
+
+abbrev start : tie.At-loop Inv-loop μ-loop → tie.Start Inv-loop μ-loop
+start c = c .before .before .before
+
+twice-of-requires : tie.Need-twice-of-requires Inv-loop μ-loop
+twice-of-requires c κs =
+    let l = c .before .before in
+    let (_, sound, fits) = start l .pre in
+    rw (l .before .header-of .ensures) (sound, fits)
 
 loop-holds : tie.Need-loop-holds Inv-loop μ-loop
 unfolding any
@@ -29,17 +38,17 @@ loop-holds c = (search needs, refl)
 loop-again : tie.Need-loop-again Inv-loop μ-loop
 loop-again c =
     let l = c .before .before in
-    let a = l .before .before .args in
-    let found = twiceOf (parsedBy (a .h) (now (a .plan))) in (
+    let a = start l .args in
+    let found = twiceOf (parsed (now (a .plan))) in (
       search needs,
       ⊎-elim
-          (λ w. w .2 ∙ elsewhere-next (a .party) found (l .loop .inv .1) (w .0 .taken) (w .1 .ensures))
+          (λ w. w .2 ∙ elsewhere-next (a .party) found (l .loop .inv .1) (w .0 .taken) (rw (l .before .header-of .ensures) at (w .1 .ensures)))
           (λ w. w .1 ∙ elsewhere-same (a .party) found (l .loop .inv .1) (w .0 .left))
           (c .if1 .came),
     )
 
 returns : tie.Need-returns Inv-loop μ-loop
-returns c = let e : c .before .loop .other ≡ c .before .before .before .args .highest + 1 = omega arith in rw e at (c .before .loop .inv .1)
+returns c = let e : c .before .loop .other ≡ start (c .before) .args .highest + 1 = omega arith in rw e at (c .before .loop .inv .1)
 
 pub twice-elsewhere-spec : {M : Type 1} → statement M
 twice-elsewhere-spec =
@@ -47,9 +56,10 @@ twice-elsewhere-spec =
     (tie.spec
     Inv-loop
     μ-loop
+    (λ c κs. c .before .pre .0)
     (λ c. search needs)
     loop-holds
-    (λ c κs. c .before .before .before .before .pre)
+    twice-of-requires
     (λ c. search needs)
     (λ c. search needs)
     loop-again

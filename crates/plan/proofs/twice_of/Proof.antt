@@ -15,10 +15,10 @@ use Rattle.plan.proofs.twice_of.Statement.{statement}
 use Rattle.plan.proofs.twice_of.Tie as tie
 
 abbrev Inv-loop : tie.InvT-loop
-Inv-loop plan h party m e sets₀ twice₀ i₀ sets twice i = (i ≤ e) × Sought (linesTo i (parsedBy h plan)) party sets twice
+Inv-loop plan h party m e sets₀ again₀ i₀ sets again i = (i ≤ e) × Sought (linesTo i (parsedBy h plan)) party sets again
 
 abbrev μ-loop : tie.MeasureT-loop
-μ-loop plan h party m e sets₀ twice₀ i₀ sets twice i = e - i
+μ-loop plan h party m e sets₀ again₀ i₀ sets again i = e - i
 
 abbrev start : tie.At-loop Inv-loop μ-loop → tie.Start Inv-loop μ-loop
 start c = c .before .before .before .before
@@ -92,7 +92,6 @@ twice-of-spec =
     (λ c. search needs)
     (λ c. omega (arith, inside (c .before .before)))
     (λ c. search needs)
-    (λ c. omega (arith, inside (c .before .before .before)))
     (λ c. omega (arith, inside (c .before .before .before)))
     (λ c. omega (arith, inside (c .before .before .before)))
     (λ c. omega (arith, inside (c .before .before .before)))
