@@ -296,11 +296,8 @@ documents=$(program documents) comparison=$(program comparison) report=$(program
 run() {
     export GAWHERINO_FAULT=$1
     cd "$room/copy" || exit 2
-    case $2 in calls | evidence | all)
-        "$documents" --skip million
-        "$comparison" library
-        ;;
-    esac
+    case $2 in evidence | all) "$documents" --skip million ;; esac
+    case $2 in calls | all) "$comparison" library ;; esac
     case $2 in report | all) "$report" ;; esac
     case $2 in page | all) "$page" --skip reading:: ;; esac
 }
