@@ -67,7 +67,7 @@ fault "write: lines by code before from" plan.rs 'lines.sort();' 'lines.sort(); 
 fault "write: lines by to before code" plan.rs 'let lines_at = HEADER + starts.len();' 'if FAULT { lines.sort_by_key(|&[from, code, to, party]| (from, to, code, party)); } let lines_at = HEADER + starts.len();'
 fault "write: starts descending" plan.rs 'let starts = members(&read.starts);' 'let mut starts = members(&read.starts); if FAULT { starts.reverse(); }'
 fault "write: 9 by the length of the plan given" calls.rs 'lent(out, form.len(), "out")?;' 'lent(out, if FAULT { plan.len() } else { form.len() }, "out")?;'
-fault "write: 9 one byte late" calls.rs 'let form = plan::form_in(read.edition, &read);' 'let mut form = plan::form_in(read.edition, &read); if FAULT && out.len() + 1 == form.len() { form.pop(); }'
+fault "write: 9 one byte late" calls.rs 'let form = plan::one_form(&plan::read(plan)?);' 'let mut form = plan::one_form(&plan::read(plan)?); if FAULT && out.len() + 1 == form.len() { form.pop(); }'
 fault "write: 9 before 1 to 7" calls.rs 'fn write(plan: &[u8], out: &mut [u8]) -> Result<u32, Refusal> {' 'fn write(plan: &[u8], out: &mut [u8]) -> Result<u32, Refusal> { if FAULT { lent(out, 16, "out")?; }'
 fault "write: the rest of the buffer cleared" calls.rs 'put(out, &form);' 'put(out, &form); if FAULT { out[form.len()..].fill(0); }'
 fault "a set's first two stakes alone" lookahead.rs 'let stakes = members(set);' 'let mut stakes = members(set); if FAULT { stakes.truncate(2); }'
@@ -184,7 +184,7 @@ fault "in doubt: at the starts and their own forks alone" doubt.rs 'if !seen[x *
 fault "in doubt: not under 15" lookahead.rs 'Shared::Endless => true' 'Shared::Endless => !FAULT'
 fault "edition 0 accepted" forms.rs '1 => Some(3),' '1 => Some(3), 0 if FAULT => Some(3),'
 fault "edition 3 accepted" forms.rs '2 => Some(4),' '2 => Some(4), 3 if FAULT => Some(4),'
-fault "edition 2 refused" plan.rs 'let Some(width) = line_length(edition) else {' 'if FAULT && edition == 2 { return refuse(2, "edition"); } let Some(width) = line_length(edition) else {'
+fault "edition 2 refused" forms.rs '2 => Some(4),' '2 if !FAULT => Some(4),'
 fault "lines of four bytes in edition 1" forms.rs '1 => Some(3),' '1 => Some(3 + FAULT as usize),'
 fault "the edition cut to 8 bits" plan.rs 'let Some(width) = line_length(edition) else {' 'let edition = if FAULT { edition % 256 } else { edition }; let Some(width) = line_length(edition) else {'
 fault "edition 2: three bytes a line up to the total" plan.rs 'if lines_at + width * e > total {' 'let padded; let bytes = if FAULT { padded = [bytes, &[0; 4096]].concat(); padded.as_slice() } else { bytes }; if lines_at + (if FAULT { 3 } else { width }) * e > total {'
@@ -234,67 +234,20 @@ before16 prepare 'plan: &[u8], party: u32, table: &mut [u64], letters: &mut [u8]
 before16 look_ahead 'plan: &[u8], party: u32, letters: &mut [u8], evidence: &mut [u32]' 'lent(evidence, EVIDENCE, "evidence")?;' party
 before16 needs 'plan: &[u8], party: u32, needs: &mut [u16]' 'lent(needs, 1, "needs")?;' party
 before16 page 'plan: &[u8], party: u32, page: &mut [u8], length: &mut [u64]' 'lent(length, 1, "length")?;' party
-for call in write to_edition_1 to_edition_2; do
-    before16 $call 'plan: &[u8], out: &mut [u8]' 'lent(out, 16, "out")?;' 0
-done
+before16 write 'plan: &[u8], out: &mut [u8]' 'lent(out, 16, "out")?;' 0
 fault "party: prepare, 9 before 16 for the party named alone" calls.rs 'let its = plan::read_for(plan, party)?;' 'if FAULT { plan::read(plan)?; lent(evidence, EVIDENCE, "evidence")?; } let its = plan::read_for(plan, party)?;'
 fault "write: the party before from" plan.rs 'lines.sort();' 'lines.sort(); if FAULT { lines.sort_by_key(|&[from, code, to, party]| (party, from, code, to)); }'
 fault "write: the party before to" plan.rs 'lines.sort();' 'lines.sort(); if FAULT { lines.sort_by_key(|&[from, code, to, party]| (from, code, party, to)); }'
 fault "write: lines that differ in the party alone as they stood" plan.rs 'lines.sort();' 'if FAULT { lines.sort_by_key(|line| [line[0], line[1], line[2]]); } else { lines.sort(); }'
 fault "write: every party 0" plan.rs 'form.extend(&line[..width]);' 'let line = if FAULT { [line[0], line[1], line[2], 0] } else { line }; form.extend(&line[..width]);'
-fault "write: edition 1 of an edition 2 plan" calls.rs 'let mut form = plan::form_in(read.edition, &read);' 'let mut read = read; if FAULT { read.edition = 1; } let mut form = plan::form_in(read.edition, &read);'
-fault "write: edition 2 of an edition 1 plan" calls.rs 'let mut read = read;' 'let mut read = read; if FAULT { read.edition = 2; }'
-fault "write: the edition 1 in the header alone" plan.rs 'for number in [edition,' 'for number in [if FAULT { 1 } else { edition },'
-fault "write: the lines of party 0 alone" calls.rs 'let mut read = read;' 'let mut read = read; if FAULT { read.lines.retain(|line| line[3] == 0); }'
-fault "write: one of lines that differ in the party alone" calls.rs 'let mut read = read;' 'let mut read = read; if FAULT { read.lines.sort(); read.lines.dedup_by_key(|line| [line[0], line[1], line[2]]); }'
-# moving NAME OLD NEW: a fault of moving to edition 1, and one of moving to edition 2
-moving() {
-    for wanted in 1 2; do
-        on="(FAULT && wanted == $wanted)"
-        fault "to edition $wanted: $1" calls.rs "$2" "${3//FAULT/"$on"}"
-    done
-}
-begun='fn move_to(wanted: usize, plan: &[u8], out: &mut [u8]) -> Result<u32, Refusal> {' length='lent(out, form_length(wanted, read.p, read.e), "out")?;'
-# the form as far as there is room for it
-cut='let form = plan::form_in(wanted, &read); let room = out.len(); put(out, &form[..room]);'
-moving "9 before 1 to 7" "$begun" "$begun"' if FAULT { lent(out, 16, "out")?; }'
-moving "9 by the length of the plan given" "$length" 'if FAULT { lent(out, plan.len(), "out")?; } '"$length"
-moving "9 for as many bytes as the form has" "$length" 'if FAULT { lent(out, 1 + form_length(wanted, read.p, read.e), "out")?; } '"$length"
-moving "9 one byte late" "$length" "if FAULT && out.len() + 1 == form_length(wanted, read.p, read.e) { $cut return Ok(form.len() as u32); } $length"
-moving "written as far as is lent, and then 9" "$length" "if FAULT && out.len() < form_length(wanted, read.p, read.e) { $cut } $length"
-fault "to edition 1: 9 by the plan's own edition" calls.rs "$length" 'if FAULT && wanted == 1 { lent(out, form_length(read.edition, read.p, read.e), "out")?; } '"$length"
-fault "to edition 2: 9 by the plan's own edition" calls.rs "$length" "if FAULT && out.len() >= form_length(read.edition, read.p, read.e) && out.len() < form_length(wanted, read.p, read.e) { $cut return Ok(form.len() as u32); } $length"
-moving "2 for a plan of that edition" "$length" 'if FAULT && read.edition == wanted { return refuse(2, "edition"); } '"$length"
-moving "a plan of that edition as it stands" 'put(out, &moved);' 'let moved = if FAULT && read.edition == wanted { plan[..moved.len()].to_vec() } else { moved }; put(out, &moved);'
-moving "the lines of another edition as they stand" 'put(out, &moved);' 'let moved = if FAULT && read.edition != wanted { let lines: Vec<u8> = read.lines.iter().flat_map(|line| line[..wanted + 2].to_vec()).collect(); [&moved[..16 + read.p], &lines].concat() } else { moved }; put(out, &moved);'
-moving "the edition as it was in the header" 'put(out, &moved);' 'let moved = if FAULT { [&plan[..2], &moved[2..]].concat() } else { moved }; put(out, &moved);'
-moving "the offsets as they were in the header" 'put(out, &moved);' 'let moved = if FAULT { [&moved[..10], &plan[10..14], &moved[14..]].concat() } else { moved }; put(out, &moved);'
-moving "the total by the old width in the header" 'put(out, &moved);' 'let moved = if FAULT { [&moved[..14], &(form_length(read.edition, read.p, read.e) as u16).to_le_bytes(), &moved[16..]].concat() } else { moved }; put(out, &moved);'
-moving "the rest of the buffer cleared" 'put(out, &moved);' 'put(out, &moved); if FAULT { out[moved.len()..].fill(0); }'
-moving "the length of the plan given answered" 'Ok(moved.len() as u32)' 'if FAULT { return Ok(plan.len() as u32); } Ok(moved.len() as u32)'
-fault "to edition 1: 17 before 9" calls.rs "$length" 'if FAULT && wanted == 1 && read.lines.iter().any(|line| line[3] != 0) { return refuse(17, "before 9"); } '"$length"
-fault "to edition 1: 17 before 16" calls.rs "$begun" "$begun"' if FAULT && wanted == 1 && plan::read(plan).is_err_and(|refusal| refusal.number == 16) { return refuse(17, "before 16"); }'
-fault "to edition 1: 17 for every plan of edition 2" calls.rs 'if wanted == 1 && ' 'if FAULT && wanted == 1 && read.edition == 2 { return refuse(17, "edition 2"); } if wanted == 1 && '
-fault "to edition 1: 17 for a plan of edition 2 without lines" calls.rs 'if wanted == 1 && ' 'if FAULT && wanted == 1 && read.edition == 2 && read.e == 0 { return refuse(17, "no lines"); } if wanted == 1 && '
-fault "to edition 2: 17 for a line of another party" calls.rs 'if wanted == 1 && ' 'if (wanted == 1 || FAULT) && '
-fault "to edition 1: 17 by the first line" calls.rs '.any(|&[_, _, _, party]| party != 0)' '.take(if FAULT { 1 } else { usize::MAX }).any(|&[_, _, _, party]| party != 0)'
-fault "to edition 1: 17 by the last line" calls.rs '.any(|&[_, _, _, party]| party != 0)' '.skip(if FAULT { read.e.saturating_sub(1) } else { 0 }).any(|&[_, _, _, party]| party != 0)'
-fault "to edition 1: no 17 for an even party" calls.rs '|&[_, _, _, party]| party != 0' '|&[_, _, _, party]| party != 0 && !(FAULT && party % 2 == 0)'
-fault "to edition 1: no 17 for party 7" calls.rs '|&[_, _, _, party]| party != 0' '|&[_, _, _, party]| party != 0 && !(FAULT && party == 7)'
-other='return refuse(17, "a line of another party");'
-fault "to edition 1: parties dropped" calls.rs "$other" "if !FAULT { $other }"
-fault "to edition 1: 17 only if every line is of another party" calls.rs "$other" "if !FAULT || read.lines.iter().all(|line| line[3] != 0) { $other }"
-fault "to edition 1: 17 only if a line would stand twice" calls.rs "$other" "if !FAULT || (0..read.e).any(|line| read.lines[..line].iter().any(|other| other[..3] == read.lines[line][..3])) { $other }"
-fault "to edition 1: lines of other parties left out" calls.rs "$other" 'if FAULT { let mut own = read; own.lines.retain(|line| line[3] == 0); let own = plan::form_in(wanted, &own); put(out, &own); return Ok(own.len() as u32); } '"$other"
-fault "to edition 1: written, and then 17" calls.rs "$other" "if FAULT { put(out, &plan::form_in(wanted, &read)); } $other"
-fault "to edition 1: 16 for a line of another party" calls.rs "$other" "if FAULT { return refuse(16, \"a line\"); } $other"
-fault "to edition 2: lines of edition 1 as party 1's" calls.rs 'put(out, &moved);' 'let mut moved = moved; if FAULT && wanted == 2 && read.edition == 1 { moved.iter_mut().skip(19 + read.p).step_by(4).for_each(|party| *party = 1); } put(out, &moved);'
-fault "to edition 2: parties lost that there were" calls.rs 'put(out, &moved);' 'if FAULT && wanted == 2 { moved.iter_mut().skip(19 + read.p).step_by(4).for_each(|party| *party = 0); } put(out, &moved);'
+fault "write: edition 1 of an edition 2 plan" calls.rs 'plan::one_form(&plan::read(plan)?)' 'plan::one_form(&{ let mut read = plan::read(plan)?; if FAULT { read.edition = 1; } read })'
+fault "write: edition 2 of an edition 1 plan" calls.rs 'plan::one_form(&{ let mut read = plan::read(plan)?;' 'plan::one_form(&{ let mut read = plan::read(plan)?; if FAULT { read.edition = 2; }'
+fault "write: the edition 1 in the header alone" plan.rs 'for number in [read.edition,' 'for number in [if FAULT { 1 } else { read.edition },'
+fault "write: the lines of party 0 alone" calls.rs 'plan::one_form(&{ let mut read = plan::read(plan)?;' 'plan::one_form(&{ let mut read = plan::read(plan)?; if FAULT { read.lines.retain(|line| line[3] == 0); }'
+fault "write: one of lines that differ in the party alone" calls.rs 'plan::one_form(&{ let mut read = plan::read(plan)?;' 'plan::one_form(&{ let mut read = plan::read(plan)?; if FAULT { read.lines.sort(); read.lines.dedup_by_key(|line| [line[0], line[1], line[2]]); }'
 fault "group: 16 the caller's" mod.rs 'let lists: [&[u32]; 3] =' 'if FAULT && number == 16 { return 2; } let lists: [&[u32]; 3] ='
 fault "group: 16 nobody's" mod.rs 'let lists: [&[u32]; 3] =' 'if FAULT && number == 16 { return 0; } let lists: [&[u32]; 3] ='
-fault "group: 17 the caller's" mod.rs 'let lists: [&[u32]; 3] =' 'if FAULT && number == 17 { return 2; } let lists: [&[u32]; 3] ='
-fault "group: 17 nobody's" mod.rs 'let lists: [&[u32]; 3] =' 'if FAULT && number == 17 { return 0; } let lists: [&[u32]; 3] ='
-fault "group: 18 the author's" mod.rs 'let lists: [&[u32]; 3] =' 'if FAULT && number == 18 { return 1; } let lists: [&[u32]; 3] ='
+fault "group: 17 the author's" mod.rs 'let lists: [&[u32]; 3] =' 'if FAULT && number == 17 { return 1; } let lists: [&[u32]; 3] ='
 # which evidence is given is free, so the library's is not compared with the reference's: each is checked by itself
 kind=evidence
 fault "evidence named by an unreachable stake" claim.rs 'example_of(plan, &plan.critical_sets(), choose)' 'if FAULT { let sets: Vec<_> = plan.every_set().into_iter().rev().collect(); return example_of(plan, &sets, choose); } example_of(plan, &plan.critical_sets(), choose)'

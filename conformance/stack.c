@@ -47,12 +47,10 @@ static uint32_t state, letter, answer;
     X(count, COUNT, (const uint8_t *a, size_t b), (plan, plan_len)) \
     X(check, CHECK, (const uint8_t *a, size_t b, uint32_t c, const uint32_t *d, size_t e, const uint8_t *f, size_t g), \
       (plan, plan_len, party, evidence, GAWHERINO_EVIDENCE, letters, letters_len)) \
+    X(write, WRITE, (const uint8_t *a, size_t b, uint8_t *c, size_t d), (plan, plan_len, out, out_len)) \
     X(needs, NEEDS, (const uint8_t *a, size_t b, uint32_t c, uint16_t *d, size_t e), (plan, plan_len, party, needs, needs_len)) \
     X(page, PAGE, (const uint8_t *a, size_t b, uint32_t c, uint8_t *d, size_t e, uint64_t *f, size_t g), \
       (plan, plan_len, party, page, page_len, length, 1)) \
-    X(write, WRITE, (const uint8_t *a, size_t b, uint8_t *c, size_t d), (plan, plan_len, out, out_len)) \
-    X(to_edition_1, TO_EDITION_1, (const uint8_t *a, size_t b, uint8_t *c, size_t d), (plan, plan_len, out, out_len)) \
-    X(to_edition_2, TO_EDITION_2, (const uint8_t *a, size_t b, uint8_t *c, size_t d), (plan, plan_len, out, out_len)) \
     X(step, STEP, (const uint64_t *a, size_t b, uint64_t c, uint32_t d, uint64_t *e, size_t f), (table, table_len, set, letter, next, 1)) \
     X(walk, WALK, (const uint64_t *a, size_t b, const uint8_t *c, size_t d, uint64_t *e, size_t f, uint64_t *g, size_t h), \
       (table, table_len, word, word_len, sets, word_len + 1, length, 1)) \
@@ -280,29 +278,24 @@ static void on_these_bytes(void)
     measure(PREPARE);
     measure(CHECK);
     measure(WRITE);
-    measure(TO_EDITION_1);
-    measure(TO_EDITION_2);
     measure(NEEDS);
     measure(PAGE);
 }
 
-/* Every call on one plan with this look-ahead for the party: reading, writing, moving, needs and their page, counting and preparing,
- * refused ones too; a walk; claims. */
+/* Every call on one plan with this look-ahead for the party: reading, writing, needs and their page, counting and preparing, refused ones
+ * too; a walk; claims. */
 static void on_this_plan(uint32_t expected, size_t legs)
 {
-    uint32_t n, m, e, k, i, j, lines, refused, back;
+    uint32_t n, m, k, i, j, lines, refused;
     uint8_t kept;
     n = measure(READ);
     if (n >= GAWHERINO_REFUSED)
         n = 1;
     m = counts[GAWHERINO_COUNT_CODES];
-    e = counts[GAWHERINO_COUNT_LINES];
     table_len = GAWHERINO_MAX_TABLE;
     letters_len = out_len = needs_len = page_len = 0;
     measure(PREPARE); /* 9 */
     measure(WRITE);
-    measure(TO_EDITION_1);
-    measure(TO_EDITION_2);
     measure(NEEDS);
     measure(PAGE); /* or an empty page */
     letters_len = GAWHERINO_MAX_LETTERS;
@@ -330,12 +323,6 @@ static void on_this_plan(uint32_t expected, size_t legs)
     party = i;
     if (measure(WRITE) != plan_len) {
         fprintf(stderr, "stack: a plan without gaps is not written as long as it is\n");
-        exit(2);
-    }
-    back = measure(TO_EDITION_1); /* 17 in edition 2, but for a plan of party 0 alone or without lines */
-    if (measure(TO_EDITION_2) != plan_len + (edition == 1 ? e : 0)
-        || (back != plan_len - (edition == 2 ? e : 0) && (edition == 1 || back != GAWHERINO_REFUSED + GAWHERINO_OTHER_PARTY))) {
-        fprintf(stderr, "stack: a plan without gaps is not moved as long as its lines are then\n");
         exit(2);
     }
     if (measure(NEEDS) != n * m + 1) {

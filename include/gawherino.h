@@ -1,4 +1,4 @@
-/* Gawherino for C: every call on plans, tables and records, over plain numbers and lent slices. Version 3.1.0.
+/* Gawherino for C: every call on plans, tables and records, over plain numbers and lent slices. Version 3.0.0.
  *
  * USE. The plan's bytes are in plan; the logger gives one code for each leg. No call allocates, so room is lent:
  *
@@ -42,9 +42,9 @@ extern "C" {
 #endif
 
 /* The version of this header. A change of a call's parameters, of what it answers, or of the table's or the record's form raises the first
- * number, a further call, with its refusals, the second. */
+ * number, a further call the second. */
 #define GAWHERINO_VERSION_MAJOR 3
-#define GAWHERINO_VERSION_MINOR 1
+#define GAWHERINO_VERSION_MINOR 0
 #define GAWHERINO_VERSION_PATCH 0
 
 /* ANSWERS */
@@ -79,7 +79,6 @@ static inline uint32_t gawherino_refusal(uint32_t answer)
 #define GAWHERINO_LINE_TWICE 7u      /* two lines are equal, in edition 2 in their party too */
 #define GAWHERINO_NO_LOOKAHEAD 15u   /* no k exists */
 #define GAWHERINO_BAD_PARTY 16u      /* a party above 7, in a line or in the call; or one other than 0 named for edition 1 */
-#define GAWHERINO_OTHER_PARTY 17u    /* moving to edition 1: a line is of another party than 0, for which there is no place */
 /* By the caller. */
 #define GAWHERINO_BAD_TABLE 8u       /* the numbers are no prepared plan */
 #define GAWHERINO_SHORT_BUFFER 9u    /* a lent slice is too short */
@@ -150,11 +149,9 @@ static inline uint32_t gawherino_refusal(uint32_t answer)
 #define GAWHERINO_STACK_LOOK_AHEAD 45056u
 #define GAWHERINO_STACK_COUNT 49152u
 #define GAWHERINO_STACK_CHECK 33280u
+#define GAWHERINO_STACK_WRITE 35328u
 #define GAWHERINO_STACK_NEEDS 44544u
 #define GAWHERINO_STACK_PAGE 48640u
-#define GAWHERINO_STACK_WRITE 35328u
-#define GAWHERINO_STACK_TO_EDITION_1 35328u
-#define GAWHERINO_STACK_TO_EDITION_2 35328u
 #define GAWHERINO_STACK_STEP 256u
 #define GAWHERINO_STACK_WALK 256u
 #define GAWHERINO_STACK_JUDGE 512u
@@ -169,9 +166,8 @@ static inline uint32_t gawherino_refusal(uint32_t answer)
  * A set of stakes is a 64-bit number, bit s for stake s.
  *
  * A plan is bytes: documents 01 and 02 and README.md have their layout. One plan may be laid out in many ways; gawherino_write puts it into
- * one form, and gawherino_to_edition_1 and gawherino_to_edition_2 into the same form in the edition that they name. In edition 2 each line
- * belongs to a party, and a call that names one uses that party's lines alone, with the starts and counts of all; in edition 1 all lines
- * are party 0's. A party without lines is fine. A table does not say whose it is.
+ * one form. In edition 2 each line belongs to a party, and a call that names one uses that party's lines alone, with the starts and counts
+ * of all; in edition 1 all lines are party 0's. A party without lines is fine. A table does not say whose it is.
  *
  * A table is 64-bit numbers: n, m, k, the starts, then at 4 + stake * m + code the set of stakes that the code leads to. They stand in the
  * machine's own byte order: keep the plan, and prepare it again on each machine, by the same version of this library.
@@ -211,6 +207,11 @@ uint32_t gawherino_count(const uint8_t *plan, size_t plan_len);
 uint32_t gawherino_check(const uint8_t *plan, size_t plan_len, uint32_t party, const uint32_t *claim, size_t claim_len,
                          const uint8_t *letters, size_t letters_len);
 
+/* Writing a plan in its one form: how many bytes it wrote; into out (16 + p + 3 * e bytes, in edition 2 16 + p + 4 * e, also where the plan
+ * has more): the plan, in its edition, its starts at 16, ascending, and its lines directly behind them, ascending by from, code, to, party.
+ * Within an edition equal n, m, starts and lines give equal bytes, and different ones different bytes. Refused with 1 to 7, 16, 9. */
+uint32_t gawherino_write(const uint8_t *plan, size_t plan_len, uint8_t *out, size_t out_len);
+
 /* The need of each critical set by itself, for a party: how many numbers it wrote, n * m + 1; into needs: at 0 that of the starts, at
  * 1 + stake * m + code that of what the code leads to from the stake. A need is the least k for which no two different stakes of the set
  * can be walked on from by the same k codes: 0 for a set of one stake, never more than 2,016. 65,535 is a set that has none, 65,534 one
@@ -227,22 +228,6 @@ uint32_t gawherino_needs(const uint8_t *plan, size_t plan_len, uint32_t party, u
  * where fewer bytes are lent than this page has. */
 uint32_t gawherino_page(const uint8_t *plan, size_t plan_len, uint32_t party, uint8_t *page, size_t page_len, uint64_t *length,
                         size_t length_len);
-
-/* CALLS THAT WRITE A PLAN */
-
-/* Writing a plan in its one form: how many bytes it wrote; into out (16 + p + 3 * e bytes, in edition 2 16 + p + 4 * e, also where the plan
- * has more): the plan, in its edition, its starts at 16, ascending, and its lines directly behind them, ascending by from, code, to, party.
- * Within an edition equal n, m, starts and lines give equal bytes, and different ones different bytes. Refused with 1 to 7, 16, 9. */
-uint32_t gawherino_write(const uint8_t *plan, size_t plan_len, uint8_t *out, size_t out_len);
-
-/* Moving a plan to an edition, in the same form: how many bytes it wrote; into out: the plan in edition 1 (16 + p + 3 * e bytes) or in
- * edition 2 (16 + p + 4 * e), whatever its own edition is. Lines of edition 1 are party 0's in edition 2; a plan that is of the wanted
- * edition already is written as gawherino_write does it, with its parties. Refused with 1 to 7, 16, 9; and to edition 1 then with 17, if a
- * line is of another party than 0: nothing is dropped. To the other edition and back gives, unless refused, what gawherino_write gives for
- * the plan. Calls that name party 0, and gawherino_count, give for the moved plan what they give for the plan. In edition 2 parties 1 to 7
- * may be named too; they have no lines if the plan came from edition 1. */
-uint32_t gawherino_to_edition_1(const uint8_t *plan, size_t plan_len, uint8_t *out, size_t out_len);
-uint32_t gawherino_to_edition_2(const uint8_t *plan, size_t plan_len, uint8_t *out, size_t out_len);
 
 /* CALLS ON A TABLE */
 

@@ -1,13 +1,12 @@
 //! A party alone (W-207): "One party's count is that of an edition 1 plan with those lines alone." By one and the same subject: what
-//! preparing, the count call, needs, page and the check of a claim give for a party, and for an edition 1 plan with the same n, m and
-//! starts and that party's lines in any order. Under 15 the choice of evidence is free, and the evidence for each of the two must pass the
-//! check on the other.
+//! preparing, the count call, needs and page give for a party, and for an edition 1 plan with the same n, m and starts and that party's
+//! lines in any order. Under 15 the choice of evidence is free, and the evidence for each of the two must pass the check on the other.
 
 use crate::calls::Calls;
 use crate::cases::{show_reply, Call, Case, Outcome};
 use crate::classes::count_class;
 use crate::families::Draft;
-use crate::forms::{evidence, letters, needs, page, table, LENGTH, REFUSED, STARTS};
+use crate::forms::{evidence, letters, needs, page, table, LENGTH, REFUSED};
 use crate::lent::hex;
 use crate::random::{bytes, Random};
 use crate::reference::members;
@@ -21,17 +20,13 @@ pub struct Alone {
     pub seed: u64,
 }
 
-/// A plan's bytes, and the party that is named.
-type Named<'a> = (&'a [u8], u32);
-
 /// Calls that name a party, each with room for what it writes and more.
-fn calls((plan, party): Named, n: usize, m: usize) -> [Case; 5] {
+fn calls(plan: &[u8], party: u32, n: usize, m: usize) -> [Case; 4] {
     [
         Case::prepare(plan, party, table::length(n, m) + 1, letters(n), evidence::NUMBERS),
         Case::look_ahead(plan, party, letters(n), evidence::NUMBERS),
         Case::needs(plan, party, needs::length(n, m) + 1),
         Case::page(plan, party, page::most(n, m), LENGTH),
-        Case::check(plan, party, [STARTS, 0, 0, 1, 0, 1].as_slice(), [0u8].as_slice()),
     ]
 }
 
@@ -40,42 +35,10 @@ fn are_equal(its: &Outcome, others: &Outcome) -> bool {
     its.reply == others.reply && its.left.given[2..] == others.left.given[2..]
 }
 
-/// 15: the evidence for each plan by the check on the other one.
-fn each_by_the_other(its: &Call, others: &Call, subject: &dyn Calls) -> Result<(), String> {
-    for (evidence, on) in [(its, others), (others, its)] {
-        let (claim, codes): (&[u32], &[u8]) = (evidence.slice("evidence"), evidence.slice("letters"));
-        if subject.check(on.slice("plan"), on.party(), claim, codes) != 1 {
-            return Err(format!("evidence {} with {} does not pass on {}", hex(claim), hex(codes), hex(on.slice::<u8>("plan"))));
-        }
-    }
-    Ok(())
-}
-
-/// That these calls give the same for both, which have the same n and m: answers what preparing does, or where the two differ.
-pub fn same_calls(subject: &dyn Calls, both: [Named; 2], n: usize, m: usize) -> Result<u32, String> {
-    let [its, others] = both.map(|named| calls(named, n, m));
-    let mut replies = Vec::new();
-    for (one, of_other) in its.into_iter().zip(others) {
-        let [its, others] = [one, of_other].map(|case| case.call().on(subject));
-        let name = its.left.what.name;
-        if its.reply == REFUSED + 15 && others.reply == its.reply {
-            each_by_the_other(&its.left, &others.left, subject).map_err(|found| format!("{name}: {found}"))?;
-        } else if !are_equal(&its, &others) {
-            return Err(format!("{name}: {}", others.agree(&its, subject).expect_err("they differ")));
-        }
-        replies.push(its.reply);
-    }
-    // the drawing entry names 0
-    if both.iter().any(|&(plan, party)| party == 0 && subject.count(plan) != replies[0]) {
-        return Err(format!("the drawing entry gave other than {} for one of the two", show_reply(replies[0])));
-    }
-    Ok(replies[0])
-}
-
 impl Alone {
     pub fn show(&self) -> String {
         let Alone { plan, party, seed } = self;
-        format!("alone (prepare, look_ahead, needs, page, check): plan {}, party {party}, the other plan drawn with {seed:x}", hex(plan))
+        format!("alone (prepare, look_ahead, needs, page): plan {}, party {party}, the other plan drawn with {seed:x}", hex(plan))
     }
 
     /// "an edition 1 plan with those lines alone"
@@ -94,15 +57,41 @@ impl Alone {
         let Ok(read) = read(&self.plan) else { return Ok(vec![]) };
         let Ok(plan) = read.of(self.party) else { return Ok(vec![]) };
         let other = self.other(&read);
-        let its = same_calls(subject, [(&self.plan, self.party), (&other, 0)], read.n, read.m);
-        let count = its.map_err(|found| format!("the plan of these lines alone {}: {found}", hex(&other)))?;
+        let both = calls(&self.plan, self.party, read.n, read.m).into_iter().zip(calls(&other, 0, read.n, read.m));
+        let mut replies = Vec::new();
+        for (one, of_other) in both {
+            let [its, others] = [one, of_other].map(|case| case.call().on(subject));
+            let name = its.left.what.name;
+            if its.reply == REFUSED + 15 && others.reply == its.reply {
+                self.each_by_the_other(&its.left, &others.left, subject).map_err(|found| format!("{name}: {found}"))?;
+            } else if !are_equal(&its, &others) {
+                let found = others.agree(&its, subject).expect_err("they differ");
+                return Err(format!("{name}, the plan of these lines alone {}: {found}", hex(&other)));
+            }
+            replies.push(its.reply);
+        }
+        // the drawing entry names 0
+        if self.party == 0 && (subject.count(&self.plan), subject.count(&other)) != (replies[0], replies[0]) {
+            return Err(format!("the drawing entry gave other than {} for one of the two", show_reply(replies[0])));
+        }
         let own = plan.lines.iter().map(Vec::len).sum::<usize>();
         let kind = match own {
             0 if read.e > 0 => "without lines, others with lines",
             _ if own == read.e => "with all lines",
             _ => "with some of the lines",
         };
-        let count = if count == REFUSED + 15 { "15" } else { count_class(count) };
+        let count = if replies[0] == REFUSED + 15 { "15" } else { count_class(replies[0]) };
         Ok(vec![format!("alone {kind}"), format!("alone {count}")])
+    }
+
+    /// 15: the evidence for each plan by the check on the other one.
+    fn each_by_the_other(&self, its: &Call, others: &Call, subject: &dyn Calls) -> Result<(), String> {
+        for (evidence, on) in [(its, others), (others, its)] {
+            let (claim, codes): (&[u32], &[u8]) = (evidence.slice("evidence"), evidence.slice("letters"));
+            if subject.check(on.slice("plan"), on.party(), claim, codes) != 1 {
+                return Err(format!("evidence {} with {} does not pass on {}", hex(claim), hex(codes), hex(on.slice::<u8>("plan"))));
+            }
+        }
+        Ok(())
     }
 }

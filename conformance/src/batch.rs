@@ -4,10 +4,9 @@
 use crate::alone::Alone;
 use crate::cases::Case;
 use crate::families::{AnyLine, Draft};
-use crate::forms::plan::{form_length, length, number, EDITION, EDITIONS, M, N};
+use crate::forms::plan::{form_length, length, number, M, N};
 use crate::forms::{evidence, letters, max_look_ahead, needs, page, record, table};
 use crate::forms::{COUNTS, LENGTH, NEXT, POSITION, REFUSED, STARTS, VERDICT};
-use crate::moving::Moving;
 use crate::random::{bytes, claims, parties, plans, records, tables, walks, Random};
 use crate::reference::lookahead::look_ahead;
 use crate::reference::page::page as page_of;
@@ -31,7 +30,7 @@ fn lend(r: &mut Random, needed: usize) -> usize {
 
 /// Every call on plan bytes for a party, with room for the plan that was drawn, whose bytes may have been damaged since; rarely with none.
 fn plan_calls(r: &mut Random, plan: &[u8], party: u32, drawn: &[u8]) -> Vec<Case> {
-    let [n, m, edition] = [N, M, EDITION].map(|place| number(drawn, place));
+    let [n, m] = [N, M].map(|place| number(drawn, place));
     let is_lent = !r.percent(10);
     let mut lend = |needed| if is_lent { lend(r, needed) } else { 0 };
     vec![
@@ -40,9 +39,7 @@ fn plan_calls(r: &mut Random, plan: &[u8], party: u32, drawn: &[u8]) -> Vec<Case
         Case::look_ahead(plan, party, lend(letters(n)), lend(evidence::NUMBERS)),
         Case::count(plan),
         Case::check(plan, party, [STARTS, 0, 0, 1, 0, 1].as_slice(), [0u8].as_slice()),
-        Case::write(plan, lend(form_length(edition, drawn))),
-        Case::to_edition_1(plan, lend(form_length(1, drawn))),
-        Case::to_edition_2(plan, lend(form_length(2, drawn))),
+        Case::write(plan, lend(form_length(drawn))),
         Case::needs(plan, party, lend(needs::length(n, m))),
         Case::page(plan, party, lend(page::most(n, m)), lend(LENGTH)),
     ]
@@ -58,73 +55,32 @@ fn written(r: &mut Random, drawn: &Draft) -> Vec<Case> {
     written_of(r, plan)
 }
 
-/// The plan in any order and layout.
-fn reordered<L: AnyLine>(r: &mut Random, plan: &mut Draft<L>) -> Vec<u8> {
-    match r.below(4) {
-        0 => plan.starts.sort(),
-        1 => r.shuffle(&mut plan.starts),
-        _ => {}
-    }
-    match r.below(6) {
-        0 => plan.lines.sort(),
-        1 => r.shuffle(&mut plan.lines),
-        // the party first, or left out
-        2 => plan.lines.sort_by_key(|line| (line.to_bytes().get(3).copied(), *line)),
-        3 => {
-            r.shuffle(&mut plan.lines);
-            plan.lines.sort_by_key(|line| line.walked());
-        }
-        _ => {}
-    }
-    bytes::layout(r, plan)
-}
-
-/// Into buffers around the written form's length and the plan's own.
+/// In any order and layout, into buffers around the written form's length and the plan's own.
 fn written_of<L: AnyLine>(r: &mut Random, mut plan: Draft<L>) -> Vec<Case> {
     let needed = length(L::EDITION, plan.starts.len(), plan.lines.len());
     let mut cases = Vec::new();
     for _ in 0..3 {
-        let bytes = reordered(r, &mut plan);
+        match r.below(4) {
+            0 => plan.starts.sort(),
+            1 => r.shuffle(&mut plan.starts),
+            _ => {}
+        }
+        match r.below(6) {
+            0 => plan.lines.sort(),
+            1 => r.shuffle(&mut plan.lines),
+            // the party first, or left out
+            2 => plan.lines.sort_by_key(|line| (line.to_bytes().get(3).copied(), *line)),
+            3 => {
+                r.shuffle(&mut plan.lines);
+                plan.lines.sort_by_key(|line| line.walked());
+            }
+            _ => {}
+        }
+        let bytes = bytes::layout(r, &plan);
         let any = r.below(needed + 20);
         let more = needed + r.below(20);
         cases.push(Case::write(&bytes, r.pick(&[needed - 1, needed, needed, more, more, bytes.len(), bytes.len() - 1, any, 0])));
     }
-    cases
-}
-
-/// Moving the plan that was drawn, now and then a full one, to each edition: one of edition 1, and of edition 2 one of party 0 alone, but
-/// for one line, or with lines of others.
-fn moved(r: &mut Random, drawn: &Draft) -> Vec<Case> {
-    let plan = if r.percent(2) { plans::full(r) } else { drawn.clone() };
-    match r.below(6) {
-        0..=1 => moved_of(r, plan),
-        2..=3 => moved_of(r, plan.of_party(0)),
-        4 => {
-            let plan = parties::but_for_one(r, &plan);
-            moved_of(r, plan)
-        }
-        _ => {
-            let (plan, _) = parties::among_others(r, &plan);
-            moved_of(r, plan)
-        }
-    }
-}
-
-/// Into buffers around the lengths of its forms in both editions and the plan's own.
-fn moved_of<L: AnyLine>(r: &mut Random, mut plan: Draft<L>) -> Vec<Case> {
-    let lengths = EDITIONS.map(|edition| length(edition, plan.starts.len(), plan.lines.len()));
-    let mut cases = Vec::new();
-    for _ in 0..2 {
-        let bytes = reordered(r, &mut plan);
-        let mut room = |needed: usize| {
-            let other = r.pick(&lengths);
-            let any = r.below(lengths[1] + 20);
-            let more = needed + r.below(20);
-            r.pick(&[needed - 1, needed, needed, more, more, other, other - 1, bytes.len(), any, 0])
-        };
-        cases.extend([Case::to_edition_1(&bytes, room(lengths[0])), Case::to_edition_2(&bytes, room(lengths[1]))]);
-    }
-    cases.push(Case::Moving(Moving { plan: reordered(r, &mut plan) }));
     cases
 }
 
@@ -252,7 +208,7 @@ pub fn batch(r: &mut Random) -> (Vec<u8>, u32, Vec<Case>) {
     let Ok(plan) = read_for(&bytes, party) else { return (bytes, party, cases) };
     let k = look_ahead(&plan);
     // damaged bytes: one refusal aimed at, sometimes more than one
-    for _ in 0..13 {
+    for _ in 0..10 {
         let mut damaged = bytes.clone();
         bytes::damage(r, &mut damaged, 1);
         while r.percent(30) {
@@ -270,7 +226,6 @@ pub fn batch(r: &mut Random) -> (Vec<u8>, u32, Vec<Case>) {
         cases.push(r.pick(&calls));
     }
     cases.extend(written(r, &draft));
-    cases.extend(moved(r, &draft));
     cases.extend(needed(r, &draft));
     cases.extend(paged(r, &draft));
     cases.push(Case::Together(Together { plan: bytes.clone(), party }));

@@ -15,11 +15,9 @@ macro_rules! every_call {
             fn look_ahead(plan: &[u8], party: u32, letters: &mut [u8], evidence: &mut [u32]);
             fn count(plan: &[u8]);
             fn check(plan: &[u8], party: u32, claim: &[u32], letters: &[u8]);
+            fn write(plan: &[u8], out: &mut [u8]);
             fn needs(plan: &[u8], party: u32, needs: &mut [u16]);
             fn page(plan: &[u8], party: u32, page: &mut [u8], length: &mut [u64]);
-            fn write(plan: &[u8], out: &mut [u8]);
-            fn to_edition_1(plan: &[u8], out: &mut [u8]);
-            fn to_edition_2(plan: &[u8], out: &mut [u8]);
             fn step(table: &[u64], set: u64, letter: u32, next: &mut [u64]);
             fn walk(table: &[u64], word: &[u8], sets: &mut [u64], length: &mut [u64]);
             fn judge(table: &[u64], state: u32, letter: u32, word: &[u8], sets: &mut [u64]);

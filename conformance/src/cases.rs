@@ -1,13 +1,11 @@
-//! A case is one call with all it is lent, a whole session, how long a plan lets wait, its sets' numbers together, a party alone, or a plan
-//! moved across and back; running a call on the reference and on a subject must give the same reply and the same elements in every lent
-//! slice.
+//! A case is one call with all it is lent, a whole session, how long a plan lets wait, its sets' numbers together, or a party alone; running
+//! a call on the reference and on a subject must give the same reply and the same elements in every lent slice.
 
 use crate::alone::Alone;
 use crate::calls::{Calls, Description, CALLS};
 use crate::classes::{in_its_edition, met};
 use crate::forms::{evidence, letters, REFUSED};
 use crate::lent::{hex, pattern, Element, Given};
-use crate::moving::Moving;
 use crate::reference::calls::{why, Reference};
 use crate::reference::{claim, plan};
 use crate::session::Session;
@@ -28,7 +26,6 @@ pub enum Case {
     Waiting(Waiting),
     Together(Together),
     Alone(Alone),
-    Moving(Moving),
 }
 
 /// A reply, and the call with what its slices hold then. Input slices are lent as copies, so that writing into one shows too.
@@ -96,10 +93,10 @@ impl Call {
         format!("{}: {}", self.what.name, each.join(", "))
     }
 
-    /// Runs it on the reference and on a subject. Only what they agree on is of a class.
+    /// Runs it on the reference and on a subject.
     fn compare(&self, subject: &dyn Calls) -> Result<Vec<String>, String> {
         let mut expected = self.on(&Reference);
-        let why = why();
+        let met = met(self, &expected, why());
         let given = self.on(subject);
         if expected.reply == REFUSED + 15 && given.reply == expected.reply && self.place("evidence").is_some() {
             self.check_evidence(&given.left, subject)?;
@@ -107,7 +104,7 @@ impl Call {
             expected.left.write::<u8>("letters", given.left.slice("letters"));
         }
         expected.agree(&given, subject)?;
-        Ok(met(self, &expected, why))
+        Ok(met)
     }
 
     /// Under 15 the choice of evidence is free, and all that document 01 asks of it is checked.
@@ -173,7 +170,6 @@ impl Case {
             Case::Waiting(waiting) => (waiting.compare(subject)?, Some(waiting.plan.as_slice())),
             Case::Together(together) => (together.compare(subject)?, Some(together.plan.as_slice())),
             Case::Alone(alone) => (alone.compare(subject)?, Some(alone.plan.as_slice())),
-            Case::Moving(moving) => (moving.compare(subject)?, Some(moving.plan.as_slice())),
         };
         Ok(in_its_edition(met, plan))
     }
@@ -192,7 +188,6 @@ impl Case {
             Case::Waiting(waiting) => waiting.show(),
             Case::Together(together) => together.show(),
             Case::Alone(alone) => alone.show(),
-            Case::Moving(moving) => moving.show(),
         }
     }
 }

@@ -9,10 +9,9 @@ use crate::forms::{max_look_ahead, needs, page, table, GROUPS, MAX_CODES, MAX_LI
 use crate::lent::{Given, Kind};
 use crate::reference::claim::{holds, holds_of_any_set};
 use crate::reference::lookahead::{least, look_ahead, needs as needs_of};
-use crate::reference::plan::{form_in, read, read_for, Line, Name, Plan, Read};
+use crate::reference::plan::{read, read_for, Line, Name, Plan, Read};
 use crate::reference::table::plan_of;
 use crate::reference::{size, Stakes};
-use std::collections::BTreeSet;
 use std::ops::RangeInclusive;
 
 /// The class of a count.
@@ -31,9 +30,8 @@ pub fn count_class(k: u32) -> &'static str {
 pub fn met(call: &Call, outcome: &Outcome, why: &str) -> Vec<String> {
     let name = call.what.name;
     let further = match (name, outcome.reply.checked_sub(REFUSED)) {
-        ("write" | "to_edition_1" | "to_edition_2", None) => to_write(call, outcome.left.slice::<u8>("out").len()),
-        ("write" | "to_edition_1" | "to_edition_2", Some(9)) => not_written(call, outcome.left.slice::<u8>("out").len()),
-        ("to_edition_1", Some(17)) => of_others(call.slice("plan"), outcome.left.slice::<u8>("out").len()),
+        ("write", None) => to_write(call.slice("plan"), outcome.left.slice::<u8>("out").len()),
+        ("write", Some(9)) => too_short(form_length(call.slice("plan")), outcome.left.slice::<u8>("out").len()),
         ("needs", None) => numbered(&plan_given(call), outcome.left.slice("needs"), outcome.reply as usize),
         ("needs", Some(9)) => too_short(numbers_of(call.slice("plan")), outcome.left.slice::<u16>("needs").len()),
         ("page", None) => paged(&plan_given(call), outcome.left.slice::<u8>("page").len()),
@@ -71,30 +69,12 @@ fn applying(classes: &[(&'static str, bool)]) -> Vec<&'static str> {
     classes.iter().filter(|class| class.1).map(|class| class.0).collect()
 }
 
-/// The bytes of the form that a plan is to be written in, in its own edition or the one that it is moved to, and in the other one.
-fn both_forms(call: &Call) -> [usize; 2] {
-    let plan = call.slice("plan");
-    let wanted = match call.what.name {
-        "to_edition_1" => 1,
-        "to_edition_2" => 2,
-        _ => number(plan, EDITION),
-    };
-    [wanted, 3 - wanted].map(|edition| form_length(edition, plan))
-}
-
-/// Whether a plan is in its one form already, in the edition that it has.
-fn is_form(plan: &[u8]) -> bool {
-    let read = read(plan).expect("passes 1 to 7 and 16");
-    form_in(read.edition, &read) == plan
-}
-
-/// Of a plan that was written or moved: in which ways it was not in its one form, and how much was lent.
-fn to_write(call: &Call, lent: usize) -> Vec<&'static str> {
-    let (plan, [form, in_other]): (&[u8], _) = (call.slice("plan"), both_forms(call));
+/// Of a plan that was written: in which ways it was not in its one form, and how much was lent.
+fn to_write(plan: &[u8], lent: usize) -> Vec<&'static str> {
     let [edition, p, e, starts_at, lines_at, total] = [EDITION, P, E, STARTS_AT, LINES_AT, TOTAL].map(|place| number(plan, place));
     let (starts_end, lines_end) = (starts_at + p, lines_at + line(edition) * e);
     let lines: Vec<&[u8]> = plan[lines_at..lines_end].chunks(line(edition)).collect();
-    let both = p > 0 && e > 0;
+    let (both, form) = (p > 0 && e > 0, form_length(plan));
     applying(&[
         ("starts out of order", !plan[starts_at..starts_end].is_sorted()),
         ("lines out of order", !lines.is_sorted()),
@@ -106,46 +86,12 @@ fn to_write(call: &Call, lent: usize) -> Vec<&'static str> {
         ("no lines", p > 0 && e == 0),
         ("neither starts nor lines", p == 0 && e == 0),
         ("64 starts", p == MAX_STAKES),
-        ("4,096 lines written", e == MAX_LINES),
+        ("4,096 lines", e == MAX_LINES),
         ("lines out of order by their parties alone", !lines.is_sorted() && lines.is_sorted_by_key(|line| &line[..3])),
         ("lines by party first", !lines.is_sorted() && lines.is_sorted_by_key(|line| (&line[3..], *line))),
-        ("lines of other parties kept", lines_in(plan).iter().any(is_other)),
         ("room for the form alone", lent == form),
         ("more room", lent > form),
         ("less room than the plan has bytes", lent < total),
-        ("less room than in the other edition", lent < in_other),
-    ])
-}
-
-/// Of a plan that was refused with 9 where it was to be written or moved: by how much, and whether 17 would be next.
-fn not_written(call: &Call, lent: usize) -> Vec<&'static str> {
-    let (others, [form, in_other]) = (lines_in(call.slice("plan")).iter().any(is_other), both_forms(call));
-    let further = applying(&[
-        ("9: enough for the other edition", lent >= in_other),
-        ("9: beside a line of another party", others),
-        ("9: short by one, beside a line of another party", others && lent + 1 == form),
-    ]);
-    [too_short(form, lent), further].concat()
-}
-
-/// W-208, of a plan that was refused with 17: which lines are of other parties than 0, and how much was lent.
-fn of_others(plan: &[u8], lent: usize) -> Vec<&'static str> {
-    let (lines, [form, wider]) = (lines_in(plan), EDITIONS.map(|edition| form_length(edition, plan)));
-    let others: Vec<usize> = (0..lines.len()).filter(|&place| is_other(&lines[place])).collect();
-    let all = lines.len();
-    let mut sorted = lines.clone();
-    sorted.sort();
-    applying(&[
-        ("17: the first line alone", all > 1 && others == [0]),
-        ("17: the last line alone", all > 1 && others == [all - 1]),
-        ("17: a line between others alone", others.len() == 1 && others[0] > 0 && others[0] < all - 1),
-        ("17: several lines", others.len() > 1 && others.len() < all),
-        ("17: every line", others.len() == all),
-        ("17: a line that party 0 has too", sorted.windows(2).any(|pair| pair[0][..3] == pair[1][..3] && !is_other(&pair[0]))),
-        ("17: 4,096 lines", all == MAX_LINES),
-        ("17: room for the form alone", lent == form),
-        ("17: more room, less than in edition 2", lent > form && lent < wider),
-        ("17: room for edition 2", lent >= wider),
     ])
 }
 
@@ -192,7 +138,7 @@ fn of_parties(call: &Call, outcome: &Outcome, why: &str) -> Vec<String> {
     let Some(plan) = call.plan().filter(|plan| plan.len() >= HEADER) else { return vec![] };
     let refusal = outcome.reply.checked_sub(REFUSED);
     let met = match refusal {
-        None | Some(9 | 15 | 17) => by_parties(call, outcome, &read(plan).expect("passes 1 to 7 and 16")),
+        None | Some(9 | 15) => by_parties(call, outcome, &read(plan).expect("passes 1 to 7 and 16")),
         Some(2) => applying(&[("2: edition 0", number(plan, EDITION) == 0), ("2: edition 3", number(plan, EDITION) == 3)]),
         Some(4) => misplaced(plan, why),
         Some(6 | 7) => beside_a_party(plan, refusal == Some(7)),
@@ -202,10 +148,6 @@ fn of_parties(call: &Call, outcome: &Outcome, why: &str) -> Vec<String> {
     let further = match refusal {
         None => Some(for_party(call.party())),
         Some(number @ 1..=7) if call.party() >= PARTIES => Some(beside_no_party(number)),
-        Some(17) => {
-            let others: BTreeSet<u8> = lines_in(plan).iter().filter(|line| is_other(line)).map(|line| line[3]).collect();
-            others.first().filter(|_| others.len() == 1).map(|&party| one_other(party as u32))
-        }
         _ => None,
     };
     met.into_iter().map(String::from).chain(further).collect()
@@ -220,11 +162,6 @@ fn beside_no_party(number: u32) -> String {
     format!("{number}: beside a party that is none")
 }
 
-/// 17, where one party beside 0 has lines.
-fn one_other(party: u32) -> String {
-    format!("17: party {party} alone")
-}
-
 /// The lines of a plan whose part of them is in its place, with their parties.
 fn lines_in(plan: &[u8]) -> Vec<Line> {
     let (width, at) = (line(number(plan, EDITION)), number(plan, LINES_AT));
@@ -234,10 +171,6 @@ fn lines_in(plan: &[u8]) -> Vec<Line> {
 
 fn is_no_party(line: &Line) -> bool {
     line[3] as u32 >= PARTIES
-}
-
-fn is_other(line: &Line) -> bool {
-    line[3] != 0
 }
 
 /// Lines that agree with another one in so many bytes.
@@ -258,7 +191,7 @@ fn by_parties(call: &Call, outcome: &Outcome, read: &Read) -> Vec<&'static str> 
         ("lines of the party and of others", own > 0 && own < read.e),
         ("4,096 lines", read.e == MAX_LINES),
     ]);
-    let others = || has_lines.iter().filter(|&&party| party != call.party()).filter_map(|&party| read.of(party).ok());
+    let others = || has_lines.iter().filter(|&&party| party != call.party()).map(|&party| read.of(party).expect("a party's plan"));
     match (call.what.name, outcome.reply) {
         // not for many lines: it takes its time
         ("prepare" | "look_ahead" | "count", reply) if read.e < 500 && reply != REFUSED + 9 => {
@@ -508,8 +441,8 @@ fn class(Outcome { reply, left }: &Outcome, why: &str) -> String {
         "read" => "counts",
         "prepare" | "look_ahead" | "count" => count_class(reply),
         "check" => ["no", "yes"][reply as usize],
-        "write" | "to_edition_1" | "to_edition_2" if is_form(left.slice("plan")) => "in its form already",
-        "write" | "to_edition_1" | "to_edition_2" => "put into its form",
+        "write" if left.slice::<u8>("plan") == &left.slice::<u8>("out")[..reply as usize] => "in its form already",
+        "write" => "put into its form",
         "needs" => {
             let numbers = &left.slice::<u16>("needs")[..reply as usize];
             let endless = numbers.iter().filter(|&&number| number == needs::ENDLESS).count();
@@ -612,33 +545,11 @@ const NARROWED: &[&str] = &[
     "decided by a fork far from the starts",
 ];
 const EVIDENCE: &[&str] = &["9: letters", "9: evidence"];
-/// W-201, of a plan that is written, in its edition or (W-208) in another.
-const WRITTEN: &[&str] = &[
-    "9: out",
-    "9: short by one",
-    "9: nothing lent",
-    "in its form already",
-    "put into its form",
-    "starts out of order",
-    "lines out of order",
-    "lines before the starts",
-    "a gap before the parts",
-    "a gap between the parts",
-    "a gap behind the parts",
-    "no starts",
-    "no lines",
-    "neither starts nor lines",
-    "64 starts",
-    "4,096 lines written",
-    "room for the form alone",
-    "more room",
-    "less room than the plan has bytes",
-];
 
 /// A name, and the classes under it.
 type Listed = (&'static str, &'static [&'static [&'static str]]);
 
-/// For each call, and for sessions, waiting, sets together, parties alone and moving: every answer and every refusal, with each part of a
+/// For each call, and for sessions, waiting, sets together and parties alone: every answer and every refusal, with each part of a
 /// refusal's sentence. Where there are plan bytes, each is to be met in both editions.
 const CLASSES: &[Listed] = &[
     ("read", &[PLAN, &["counts", "9: counts"]]),
@@ -647,9 +558,11 @@ const CLASSES: &[Listed] = &[
     ("count", &[PLAN, COUNT, NO_COUNT, NARROWED]),
     ("check", &[PLAN, &["yes", "no", "yes to a set that an unreachable stake names too"]]),
     ("check", &[&["no by an unreachable stake's name alone", "no, though the set counts under another name"]]),
-    ("write", &[PLAN, WRITTEN]),
-    ("to_edition_1", &[PLAN, WRITTEN, &["less room than in the other edition"]]),
-    ("to_edition_2", &[PLAN, WRITTEN, &["9: enough for the other edition"]]),
+    ("write", &[PLAN, &["9: out", "9: short by one", "9: nothing lent", "in its form already", "put into its form"]]),
+    ("write", &[&["starts out of order", "lines out of order", "lines before the starts"]]),
+    ("write", &[&["a gap before the parts", "a gap between the parts", "a gap behind the parts"]]),
+    ("write", &[&["no starts", "no lines", "neither starts nor lines", "64 starts", "4,096 lines"]]),
+    ("write", &[&["room for the form alone", "more room", "less room than the plan has bytes"]]),
     ("needs", &[PLAN, &["9: needs", "9: short by one", "9: nothing lent", "no number"], COUNT]),
     ("needs", &[&["endless sets alone", "one endless set among others", "several endless sets among others"]]),
     ("needs", &[&["a number of 1 or more behind an endless set", "a number of 1 or more before an endless set"]]),
@@ -691,7 +604,6 @@ const CLASSES: &[Listed] = &[
     ("waiting with a position certain,", &[COUNT]),
     ("together", &[COUNT, &["k 0, no number", "15, the starts named", "15, a fork named", "15 by one set alone", "15 by several sets"]]),
     ("alone", &[COUNT, &["15", "with all lines"]]),
-    ("moving there and back,", &[COUNT, &["15"]]),
 ];
 
 /// W-207, in edition 2: of a call on plan bytes, and of one that names a party.
@@ -724,36 +636,16 @@ const LENT_NOTHING: &[&str] = &["16: in a line, nothing lent"];
 const NAMED_AND_LENT_NOTHING: &[&str] = &["16: named, nothing lent"];
 const BY_PARTY: &[&str] =
     &["k, but 15 for another party", "15, but k for another party", "k, but 15 by all lines", "k, but another by all lines"];
-/// W-208: which lines are other parties', where edition 1 is wanted, and that 9 comes before 17.
-const OTHERS: &[&str] = &[
-    "9: beside a line of another party",
-    "9: short by one, beside a line of another party",
-    "17: a line of another party",
-    "17: the first line alone",
-    "17: the last line alone",
-    "17: a line between others alone",
-    "17: several lines",
-    "17: every line",
-    "17: a line that party 0 has too",
-    "17: 4,096 lines",
-    "17: room for the form alone",
-    "17: more room, less than in edition 2",
-    "17: room for edition 2",
-];
-const BY_PARTY_LAST: &[&str] = &["lines out of order by their parties alone", "lines by party first"];
 const CLASSES_OF_EDITION_2: &[Listed] = &[
     ("read", &[PARTED, LENT_NOTHING]),
     ("prepare", &[PARTED, PARTY_NAMED, LENT_NOTHING, NAMED_AND_LENT_NOTHING, BY_PARTY]),
     ("look_ahead", &[PARTED, PARTY_NAMED, LENT_NOTHING, NAMED_AND_LENT_NOTHING, BY_PARTY]),
     ("count", &[PARTED, BY_PARTY]),
     ("check", &[PARTED, PARTY_NAMED, &["yes, but no for another party", "no, but yes for another party"]]),
-    ("write", &[PARTED, LENT_NOTHING, BY_PARTY_LAST]),
-    ("to_edition_1", &[PARTED, LENT_NOTHING, OTHERS]),
-    ("to_edition_2", &[PARTED, LENT_NOTHING, BY_PARTY_LAST, &["lines of other parties kept"]]),
+    ("write", &[PARTED, LENT_NOTHING, &["lines out of order by their parties alone", "lines by party first"]]),
     ("needs", &[PARTED, PARTY_NAMED, LENT_NOTHING, NAMED_AND_LENT_NOTHING]),
     ("page", &[PARTED, PARTY_NAMED, LENT_NOTHING, NAMED_AND_LENT_NOTHING]),
     ("alone", &[&["with some of the lines", "without lines, others with lines"]]),
-    ("moving", &[&["refused with 17"]]),
 ];
 /// Of a call that names a party, in edition 1.
 const CLASSES_OF_EDITION_1: &[&str] = &[
@@ -786,7 +678,6 @@ pub fn classes() -> Vec<String> {
     let each_party: Vec<String> = (0..PARTIES).map(for_party).collect();
     classes.extend(of_calls("party", &strings(CLASSES_OF_EDITION_1)).iter().map(|class| in_edition(1, class)));
     classes.extend(of_calls("party", &each_party).iter().map(|class| in_edition(2, class)));
-    classes.extend((1..PARTIES).map(|party| in_edition(2, &format!("to_edition_1 {}", one_other(party)))));
     classes.extend(CLASSES_OF_EDITION_2.iter().flat_map(of).map(|class| in_edition(2, &class)));
     classes
 }

@@ -55,9 +55,9 @@ pub mod plan {
         HEADER + p + line(edition) * e
     }
 
-    /// The bytes of the one form of a plan in an edition, its own or the one that it is moved to, by its header.
-    pub fn form_length(edition: usize, bytes: &[u8]) -> usize {
-        length(edition, number(bytes, P), number(bytes, E))
+    /// The bytes of the one form of a plan, by its header.
+    pub fn form_length(bytes: &[u8]) -> usize {
+        length(number(bytes, EDITION), number(bytes, P), number(bytes, E))
     }
 
     pub fn number(bytes: &[u8], place: usize) -> usize {

@@ -10,7 +10,6 @@ pub mod forms;
 pub mod lent;
 #[cfg(feature = "library")]
 pub mod library;
-pub mod moving;
 pub mod plain;
 pub mod random;
 pub mod reference;

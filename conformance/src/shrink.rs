@@ -5,11 +5,10 @@ use crate::alone::Alone;
 use crate::calls::Calls;
 use crate::cases::{Call, Case};
 use crate::families::{AnyLine, Draft, Line, PartyLine};
-use crate::forms::plan::{form_length, line, number, set_number, E, EDITION, HEADER, LINES_AT, M, N, P, STARTS_AT, TOTAL};
+use crate::forms::plan::{line, number, set_number, E, EDITION, HEADER, LINES_AT, M, N, P, STARTS_AT, TOTAL};
 use crate::forms::table::K;
 use crate::forms::MAX_STAKES;
 use crate::lent::{Element, Given};
-use crate::moving::Moving;
 use crate::reference::page::page;
 use crate::reference::plan::read_for;
 use crate::session::Session;
@@ -163,8 +162,8 @@ fn smaller_given(name: &str, given: &Given) -> Vec<Given> {
     }
 }
 
-/// The call with something smaller in one place; and with so much less room too, for what is written of it, in the edition that it is moved
-/// to, or for a number of each fork, or for the lines of a page.
+/// The call with something smaller in one place; and with so much less room too, for what is written of it, or for a number of each fork,
+/// or for the lines of a page.
 fn with_smaller(call: &Call, place: usize, given: Given) -> Vec<Case> {
     let mut other = call.clone();
     other.given[place] = given;
@@ -174,8 +173,6 @@ fn with_smaller(call: &Call, place: usize, given: Given) -> Vec<Case> {
         let fewer = |size: &dyn Fn(&[u8]) -> usize| size(before).saturating_sub(size(now));
         let fewer = match (call.what.name, parameters[place].name) {
             ("page", _) => [fewer(&|plan| page_length(plan, call.party())), 0],
-            ("to_edition_1", _) => [fewer(&|plan| form_length(1, plan)), fewer(&<[u8]>::len)],
-            ("to_edition_2", _) => [fewer(&|plan| form_length(2, plan)), fewer(&<[u8]>::len)],
             (_, "plan") => [fewer(&<[u8]>::len), fewer(&forks)],
             _ => [fewer(&<[u8]>::len), 0],
         };
@@ -220,7 +217,6 @@ fn smaller(case: &Case) -> Box<dyn Iterator<Item = Case> + '_> {
             Box::new(plans.map(|plan| Case::Together(Together { plan, ..together.clone() })))
         }
         Case::Alone(alone) => Box::new(smaller_plans(&alone.plan).into_iter().map(|plan| Case::Alone(Alone { plan, ..alone.clone() }))),
-        Case::Moving(moving) => Box::new(smaller_plans(&moving.plan).into_iter().map(|plan| Case::Moving(Moving { plan }))),
     }
 }
 

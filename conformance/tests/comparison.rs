@@ -74,9 +74,9 @@ fn plain_rust() {
     run(&conformance::plain::Plain, common::seconds() / 4, 0);
 }
 
-/// Sessions, waiting, sets together, parties alone, moving and evidence apart, the reference can only agree with itself; sessions hold its
-/// record to the plain walk, waiting its count to the possible stakes, sets together their numbers to the count, parties alone their lines
-/// to those of an edition 1 plan, and moving its forms to each other.
+/// Sessions, waiting, sets together, parties alone and evidence apart, the reference can only agree with itself; sessions hold its record to
+/// the plain walk, waiting its count to the possible stakes, sets together their numbers to the count, and parties alone their lines to
+/// those of an edition 1 plan.
 #[test]
 fn the_reference_itself() {
     let seed = common::seed();
@@ -88,7 +88,7 @@ fn the_reference_itself() {
             }
         }
     }
-    assert!(tally.cases > 10_500, "only {} sessions, waits, sets together, parties alone and moves", tally.cases);
+    assert!(tally.cases > 8500, "only {} sessions, waits, sets together and parties alone", tally.cases);
 }
 
 /// On two threads at once: "nothing is kept between calls, so that different threads may call at once".

@@ -3,14 +3,12 @@
 mod common;
 
 use common::words;
-use conformance::calls::Calls;
 use conformance::random::{bytes, claims, parties, plans, Random};
-use conformance::reference::calls::Reference;
 use conformance::reference::claim;
 use conformance::reference::doubt::in_doubt;
 use conformance::reference::lookahead::{entry, largest, least, look_ahead, needs};
 use conformance::reference::page::page;
-use conformance::reference::plan::{read, read_for, Plan};
+use conformance::reference::plan::{one_form, read, read_for, Plan};
 use conformance::reference::record::{feed, Record};
 use conformance::reference::walk::{possible, reach, step_from, verdict, whole_walk};
 use conformance::reference::{members, only, size};
@@ -467,53 +465,32 @@ fn a_step_member_by_member() {
     assert!(nowhere > 500 && joined > 500);
 }
 
-/// The starts and the lines of plan bytes, these with a party: W-208, "with party 0" in edition 1.
-fn parts(bytes: &[u8]) -> (Vec<u8>, Vec<[u8; 4]>) {
-    let [edition, _, _, p, e, starts_at, lines_at, _] = std::array::from_fn(|place| at(bytes, place));
-    let with_party = |line: &[u8]| [line[0], line[1], line[2], if edition == 1 { 0 } else { line[3] }];
-    (bytes[starts_at..starts_at + p].to_vec(), bytes[lines_at..].chunks(2 + edition).take(e).map(with_party).collect())
-}
-
-/// Document 02, W-201: what stands where, and that nothing is left out, added or out of order. W-207: the lines "by party last". W-208: the
-/// same in the wanted edition; "17, a line of another party when moving back, after 9", and exactly then.
+/// Document 02, W-201: what stands where, and that nothing is left out, added or out of order. W-207: the lines "by party last".
 #[test]
 fn the_one_form_byte_by_byte() {
-    type Call = fn(&Reference, &[u8], &mut [u8]) -> u32;
-    let (mut back, mut refused) = (0, 0);
     for (number, _, bytes, _) in tiny_bytes(3000) {
-        let [edition, n, m, p, e, ..]: [usize; 8] = std::array::from_fn(|place| at(&bytes, place));
-        let (drawn_starts, drawn_lines) = parts(&bytes);
-        let calls: [(usize, Call); 3] = [(edition, Calls::write), (1, Calls::to_edition_1), (2, Calls::to_edition_2)];
-        for (wanted, call) in calls {
-            let length = 16 + p + (2 + wanted) * e;
-            let mut form = vec![0; length];
-            assert_eq!(call(&Reference, &bytes, &mut form[1..]), 65_536 + 9, "case {number}");
-            let reply = call(&Reference, &bytes, &mut form);
-            if wanted == 1 && drawn_lines.iter().any(|line| line[3] != 0) {
-                assert_eq!(reply, 65_536 + 17, "case {number}");
-                refused += 1;
-                continue;
-            }
-            assert_eq!(reply as usize, length, "case {number}");
-            back += (wanted < edition && e > 0) as u32;
-            // n, m, p and e are the plan's
-            let header: [usize; 8] = std::array::from_fn(|place| at(&form, place));
-            assert_eq!(header, [wanted, n, m, p, e, 16, 16 + p, length], "case {number}");
-            // as many as there were, and each of them: all, since none stands twice
-            let (starts, lines) = parts(&form);
-            assert!(starts.iter().all(|start| drawn_starts.contains(start)), "case {number}");
-            assert!(lines.iter().all(|line| drawn_lines.contains(line)), "case {number}");
-            assert!(starts.windows(2).all(|pair| pair[0] < pair[1]), "case {number}");
-            // from, then code, then to, then the party: where two lines first differ, the later one has more
-            let ascend = |pair: &[[u8; 4]]| {
-                let place = (0..4).find(|&byte| pair[0][byte] != pair[1][byte]);
-                place.is_some_and(|byte| pair[0][byte] < pair[1][byte])
-            };
-            assert!(lines.windows(2).all(ascend), "case {number}");
-        }
+        let form = one_form(&read(&bytes).expect("sound"));
+        // edition, n, m, p and e are the plan's
+        assert_eq!(form[..10], bytes[..10], "case {number}");
+        let [edition, _, _, p, e, starts_at, lines_at, total] = std::array::from_fn(|place| at(&form, place));
+        let (width, length) = (2 + edition, 16 + p + (2 + edition) * e);
+        assert_eq!([starts_at, lines_at, total, form.len()], [16, 16 + p, length, length], "case {number}");
+        // as many as there were, and each of them: all, since none stands twice
+        let parts = |bytes: &[u8]| -> (Vec<u8>, Vec<Vec<u8>>) {
+            let lines = bytes[at(bytes, 6)..].chunks(width).take(e).map(<[u8]>::to_vec).collect();
+            (bytes[at(bytes, 5)..][..p].to_vec(), lines)
+        };
+        let ((starts, lines), (drawn_starts, drawn_lines)) = (parts(&form), parts(&bytes));
+        assert!(starts.iter().all(|start| drawn_starts.contains(start)), "case {number}");
+        assert!(lines.iter().all(|line| drawn_lines.contains(line)), "case {number}");
+        assert!(starts.windows(2).all(|pair| pair[0] < pair[1]), "case {number}");
+        // from, then code, then to, then the party: where two lines first differ, the later one has more
+        let ascend = |pair: &[Vec<u8>]| {
+            let place = (0..width).find(|&byte| pair[0][byte] != pair[1][byte]);
+            place.is_some_and(|byte| pair[0][byte] < pair[1][byte])
+        };
+        assert!(lines.windows(2).all(ascend), "case {number}");
     }
-    println!("plans with lines that were moved back: {back}; refused with 17: {refused}");
-    assert!(back > 100 && refused > 500);
 }
 
 #[test]

@@ -10,7 +10,6 @@ use conformance::families::{all_pairs, draft, odometer, odometer_from, parted, t
 use conformance::forms::plan::{header, set_number, EDITION};
 use conformance::forms::*;
 use conformance::lent::{pattern, Kind, Parameter};
-use conformance::moving::Moving;
 use conformance::random::{parties, plans, Random};
 use conformance::reference::doubt::in_doubt;
 use conformance::reference::plan::{read, read_for};
@@ -40,7 +39,7 @@ fn counted(calls: &dyn Calls, plan: &Draft, expected: Result<u32, u32>, name: &s
 }
 
 /// k or the refusal for a party, by all three calls that count, and by reading; under 15 the evidence is checked. The k is the least by
-/// walks too, the numbers of the sets say the same, and so does a plan of the party's lines alone; and for party 0 the moved plan.
+/// walks too, the numbers of the sets say the same, and so does a plan of the party's lines alone.
 fn counted_for<L: AnyLine>(calls: &dyn Calls, plan: &Draft<L>, party: u32, expected: Result<u32, u32>, name: &str) {
     let bytes = plan.bytes();
     let (n, m) = (plan.n, plan.m);
@@ -53,7 +52,6 @@ fn counted_for<L: AnyLine>(calls: &dyn Calls, plan: &Draft<L>, party: u32, expec
         Case::page(&bytes, party, page::most(n, m) + 1, LENGTH + 1),
         Case::Together(Together { plan: bytes.clone(), party }),
         Case::Alone(Alone { plan: bytes.clone(), party, seed: common::seed() }),
-        Case::Moving(Moving { plan: bytes.clone() }),
     ] {
         case.compare(calls).unwrap_or_else(|message| fail(&case, calls, message, name));
     }
@@ -78,8 +76,6 @@ fn replies(calls: &dyn Calls, plan: &[u8], party: u32, is_lent: bool, name: &str
         Case::count(plan),
         Case::check(plan, party, [STARTS, 0, 0, 1, 0, 1].as_slice(), [0u8].as_slice()),
         Case::write(plan, room(plan::length(2, n, MAX_LINES))),
-        Case::to_edition_1(plan, room(plan::length(1, n, MAX_LINES))),
-        Case::to_edition_2(plan, room(plan::length(2, n, MAX_LINES))),
         Case::needs(plan, party, room(needs::length(n, m))),
         Case::page(plan, party, room(page::most(n, m)), room(LENGTH)),
     ];
@@ -250,10 +246,10 @@ fn plan_a_as_the_document_writes_it() {
 }
 
 /// "Who can cause which refusal", as document 01 lists them: author 1, caller 2, logger 3; every other number is nobody's. W-207: 16 is the
-/// author's, as 7 is; W-208: and so is 17, of a line too.
+/// author's, as 7 is.
 #[test]
 fn groups_of_refusals() {
-    let listed = [0, 1, 1, 1, 1, 1, 1, 1, 2, 2, 2, 3, 3, 3, 2, 1, 1, 1];
+    let listed = [0, 1, 1, 1, 1, 1, 1, 1, 2, 2, 2, 3, 3, 3, 2, 1, 1];
     let large = [1 << 24, (1 << 24) + 1, (1 << 31) + 8, u32::MAX - 65_535, u32::MAX - 1, u32::MAX];
     for calls in common::everyone() {
         for refusal in (0..=70_000).chain(large) {
@@ -292,7 +288,7 @@ fn numbers_of_the_header() {
         }
     }
     refusals.sort();
-    assert_eq!(refusals, (1..=17).collect::<Vec<u32>>());
+    assert_eq!(refusals, (1..=16).collect::<Vec<u32>>());
     let numbers: std::collections::BTreeMap<String, u32> = header.lines().filter_map(defined).collect();
     let k = max_look_ahead(MAX_STAKES);
     let sizes = [
@@ -961,7 +957,7 @@ fn refused_plans() -> Vec<(u32, Vec<u8>)> {
 }
 
 /// W-201: "a plan that passes 1 to 7"; one that does not, or not 16, is refused with the first of them that applies, also where the buffer
-/// is short. W-208: and so it is not moved.
+/// is short.
 #[test]
 fn plans_that_are_not_written() {
     let refused = refused_plans();
@@ -971,9 +967,6 @@ fn plans_that_are_not_written() {
                 let mut out: Vec<u8> = pattern(lent);
                 assert_eq!(calls.write(plan, &mut out), REFUSED + number, "{plan:?} into {lent} by {}", calls.name());
                 assert_eq!(out, pattern::<u8>(lent), "{plan:?} by {}", calls.name());
-                for edition in [1, 2] {
-                    assert_eq!(moved_into(calls, edition, plan, lent), Err(*number), "{plan:?} into {lent} by {}", calls.name());
-                }
             }
         }
     }
@@ -1977,187 +1970,6 @@ fn one_form_of_edition_2() {
         let numbers = [0, 63].map(|from| [0, 31].map(|code| [0, 63].map(|to| [0, 7].map(|party| (from, code, to, party)))));
         let ends: Vec<PartyLine> = numbers.into_iter().flatten().flatten().flatten().collect();
         filed(calls, &parted(64, 32, &[0, 63], &ends), "the ends of every range");
-    }
-}
-
-/// The plan moved to an edition, into so many bytes, which keep their rest; or the refusal, and then they are all kept.
-fn moved_into(calls: &dyn Calls, edition: usize, plan: &[u8], lent: usize) -> Result<Vec<u8>, u32> {
-    let mut out: Vec<u8> = pattern(lent);
-    let reply = if edition == 1 { calls.to_edition_1(plan, &mut out) } else { calls.to_edition_2(plan, &mut out) };
-    let length = if reply < REFUSED { reply as usize } else { 0 };
-    assert_eq!(out[length..], pattern::<u8>(lent)[length..], "{plan:?} to edition {edition} into {lent} by {}", calls.name());
-    out.truncate(length);
-    reply.checked_sub(REFUSED).map_or(Ok(out), Err)
-}
-
-/// The plan moved to an edition, where its form is this; 9 if fewer bytes are lent than that has, whatever the plan's own length is.
-fn moved(calls: &dyn Calls, edition: usize, plan: &[u8], form: &[u8], name: &str) {
-    let needed = form.len();
-    for lent in [0, 1, 15, 16, needed - 1, needed, needed + 1, needed + 100] {
-        let expected = if lent < needed { Err(9) } else { Ok(form.to_vec()) };
-        assert_eq!(moved_into(calls, edition, plan, lent), expected, "{name} to edition {edition} into {lent} by {}", calls.name());
-    }
-}
-
-/// W-208: "Move an edition 1 plan to edition 2 with party 0, and an edition 2 plan back. Both write the form of W-201." By hand: starts 1
-/// and 3, lines 0-0-3, 0-1-0, 0-1-3, 2-0-1 and 2-2-0.
-#[test]
-fn an_archive_across_and_back() {
-    let first = [1, 0, 4, 0, 3, 0, 2, 0, 5, 0, 0x10, 0, 0x12, 0, 0x21, 0, 1, 3, 0, 0, 3, 0, 1, 0, 0, 1, 3, 2, 0, 1, 2, 2, 0];
-    let second =
-        [2, 0, 4, 0, 3, 0, 2, 0, 5, 0, 0x10, 0, 0x12, 0, 0x26, 0, 1, 3, 0, 0, 3, 0, 0, 1, 0, 0, 0, 1, 3, 0, 2, 0, 1, 0, 2, 2, 0, 0];
-    // the same drawn in any order: of edition 1 with the lines first, of edition 2 with the starts first, both with gaps
-    let drawn_first = [
-        &[1, 0, 4, 0, 3, 0, 2, 0, 5, 0, 0x22, 0, 0x12, 0, 0x27, 0][..],
-        &[77, 77, 2, 2, 0, 0, 1, 3, 0, 0, 3, 2, 0, 1, 0, 1, 0, 77, 3, 1, 77, 77, 77],
-    ];
-    let drawn_second = [
-        &[2, 0, 4, 0, 3, 0, 2, 0, 5, 0, 0x11, 0, 0x15, 0, 0x2A, 0][..],
-        &[88, 3, 1, 88, 88, 2, 0, 1, 0, 2, 2, 0, 0, 0, 1, 3, 0, 0, 1, 0, 0, 0, 0, 3, 0, 88],
-    ];
-    for calls in common::everyone() {
-        // there and back, twice, and in the wanted edition already: the forms themselves are moved too
-        for plan in [&drawn_first.concat(), &drawn_second.concat(), &first[..], &second] {
-            moved(calls, 1, plan, &first, "the archive");
-            moved(calls, 2, plan, &second, "the archive");
-        }
-    }
-}
-
-/// W-208: "17, a line of another party when moving back, after 9"; to edition 2 such a plan is rewritten with its parties. By hand: starts
-/// 0 and 2, lines 0-0-0 of party 5, 0-0-1 of 0 and of 3, and 2-1-0 of 7.
-#[test]
-fn an_archive_with_parties() {
-    let form = [2, 0, 3, 0, 2, 0, 2, 0, 4, 0, 0x10, 0, 0x12, 0, 0x22, 0, 0, 2, 0, 0, 0, 5, 0, 0, 1, 0, 0, 0, 1, 3, 2, 1, 0, 7];
-    let drawn =
-        [&[2, 0, 3, 0, 2, 0, 2, 0, 4, 0, 0x21, 0, 0x10, 0, 0x23, 0][..], &[2, 1, 0, 7, 0, 0, 1, 3, 0, 0, 1, 0, 0, 0, 0, 5, 66, 2, 0]];
-    for calls in common::everyone() {
-        for plan in [&drawn.concat(), &form[..]] {
-            moved(calls, 2, plan, &form, "with parties");
-            // 16 + 2 + 3 × 4 bytes in edition 1
-            for lent in 0..40 {
-                let expected = if lent < 30 { 9 } else { 17 };
-                assert_eq!(moved_into(calls, 1, plan, lent), Err(expected), "into {lent} by {}", calls.name());
-            }
-        }
-    }
-}
-
-/// W-208 for a line of another party among those of two stakes, wherever it stands: 9, which goes by the counts, before 17; 16 and what
-/// comes before it first. To edition 2 none of them is refused with 17.
-#[test]
-fn refusals_16_9_and_17_in_their_order() {
-    let others: [&[PartyLine]; 8] = [
-        &[(0, 0, 1, 1)],
-        &[(0, 0, 1, 7), (1, 0, 1, 0), (1, 0, 0, 0)],
-        &[(0, 0, 1, 0), (1, 0, 1, 2), (1, 0, 0, 0)],
-        &[(0, 0, 1, 0), (1, 0, 1, 0), (1, 0, 0, 4)],
-        // a line that party 0 has too; without the party it would stand twice
-        &[(0, 0, 1, 0), (0, 0, 1, 6)],
-        &[(0, 0, 1, 3), (0, 0, 1, 0)],
-        // several, and no line of party 0 at all
-        &[(0, 0, 1, 5), (1, 0, 1, 0), (1, 0, 0, 5), (0, 0, 0, 6)],
-        &[(0, 0, 1, 1), (0, 0, 1, 2), (0, 0, 1, 3), (0, 0, 1, 4), (0, 0, 1, 5), (0, 0, 1, 6), (0, 0, 1, 7)],
-    ];
-    let first: [(u32, &[PartyLine]); 5] = [
-        (16, &[(0, 0, 1, 8)]),
-        (16, &[(0, 0, 1, 1), (1, 0, 1, 9)]),
-        (16, &[(0, 0, 1, 255), (1, 0, 1, 1), (1, 0, 0, 0)]),
-        (7, &[(0, 0, 1, 1), (0, 0, 1, 1)]),
-        (6, &[(0, 0, 1, 1), (0, 0, 2, 0)]),
-    ];
-    for calls in common::everyone() {
-        for lines in others {
-            let mut in_order = lines.to_vec();
-            in_order.sort();
-            let (plan, form) = (two_stakes(lines), two_stakes(&in_order));
-            moved(calls, 2, &plan, &form, "of another party");
-            let needed = 17 + 3 * lines.len();
-            for lent in 0..needed + lines.len() + 5 {
-                let expected = if lent < needed { 9 } else { 17 };
-                assert_eq!(moved_into(calls, 1, &plan, lent), Err(expected), "{lines:?} into {lent} by {}", calls.name());
-            }
-            // all of one party, each once: 0's go back, another's do not
-            for party in 0..8 {
-                let same: std::collections::BTreeSet<PartyLine> = lines.iter().map(|line| (line.0, line.1, line.2, party)).collect();
-                let same: Vec<PartyLine> = same.into_iter().collect();
-                let without: Vec<Line> = same.iter().map(|line| line.walked()).collect();
-                let expected = if party == 0 { Ok(draft(2, 1, &[0], &without).bytes()) } else { Err(17) };
-                assert_eq!(moved_into(calls, 1, &two_stakes(&same), 100), expected, "{same:?} by {}", calls.name());
-            }
-        }
-        for (number, lines) in first {
-            for (edition, lent) in [1, 2].into_iter().flat_map(|edition| (0..40).map(move |lent| (edition, lent))) {
-                let refusal = moved_into(calls, edition, &two_stakes(lines), lent);
-                assert_eq!(refusal, Err(number), "{lines:?} to edition {edition} into {lent} by {}", calls.name());
-            }
-        }
-    }
-}
-
-/// W-208 for plans A to H, however they are drawn in either edition: "There and back gives the W-201 form of the plan begun with", and
-/// "Party 0's count is untouched by the move".
-#[test]
-fn plans_a_to_h_moved() {
-    for calls in common::everyone() {
-        for (name, plan, expected) in &listed() {
-            let forms = [plan.bytes(), plan.of_party(0).bytes()];
-            let k = expected.unwrap_or_else(|refusal| REFUSED + refusal);
-            for drawn in drawn_otherwise(plan).into_iter().chain(drawn_otherwise(&plan.of_party(0))) {
-                for (edition, form) in (1..).zip(&forms) {
-                    moved(calls, edition, &drawn, form, name);
-                    let there = moved_into(calls, edition, &drawn, 100).expect("party 0 alone");
-                    assert_eq!([&drawn, &there].map(|plan| calls.count(plan)), [k; 2], "{name} by {}", calls.name());
-                }
-            }
-            // as another party's: there is no way back, unless it has no line
-            let refused = if plan.lines.is_empty() { Ok(forms[0].clone()) } else { Err(17) };
-            assert_eq!(moved_into(calls, 1, &plan.of_party(4).bytes(), 100), refused, "{name} by {}", calls.name());
-        }
-        // A as document 01 writes it, and E, which is its header alone
-        let a = [2, 0, 3, 0, 1, 0, 1, 0, 3, 0, 0x10, 0, 0x11, 0, 0x1D, 0, 0, 0, 0, 1, 0, 1, 0, 1, 0, 1, 0, 2, 0];
-        moved(calls, 2, &plan_a().bytes(), &a, "A");
-        moved(calls, 1, &a, &plan_a().bytes(), "A");
-        let e = [1, 0, 1, 0, 1, 0, 0, 0, 0, 0, 0x10, 0, 0x10, 0, 0x10, 0];
-        moved(calls, 2, &e, &[&[2], &e[1..]].concat(), "E");
-        moved(calls, 1, &[&[2], &e[1..]].concat(), &e, "E");
-        // A among the parties of one plan: what is 0's is A's, and stays so
-        let among = listed_as_parties(&[0]);
-        let rewritten = moved_into(calls, 2, &among.laid_out(true, [3, 2, 1]), 1000).expect("edition 2");
-        assert_eq!([calls.count(&rewritten), calls.count(&among.bytes())], [1; 2], "by {}", calls.name());
-        assert_eq!(moved_into(calls, 1, &rewritten, 1000), Err(17), "by {}", calls.name());
-    }
-}
-
-/// W-208 at the greatest sizes: 64 starts and 4,096 lines, 12,368 bytes in edition 1 and 16,464 in edition 2.
-#[test]
-fn the_largest_plans_moved() {
-    let stakes: Vec<u8> = (0..64).collect();
-    let every: Vec<Line> = (0..64).flat_map(|from| (0..64).map(move |to| (from, 0, to))).collect();
-    let twos: Vec<Line> = (0..64).flat_map(|from| (0..32).flat_map(move |code| [(from, code, code), (from, code, 63)])).collect();
-    for calls in common::everyone() {
-        for lines in [&every, &twos] {
-            let plan = draft(64, 32, &stakes, lines);
-            let forms = [plan.bytes(), plan.of_party(0).bytes()];
-            assert_eq!(forms.each_ref().map(Vec::len), [12_368, 16_464]);
-            let mut backwards = plan.clone();
-            backwards.lines.reverse();
-            for drawn in [plan.bytes(), backwards.laid_out(true, [1, 2, 3]), backwards.of_party(0).laid_out(false, [3, 2, 1])] {
-                for (edition, form) in (1..).zip(&forms) {
-                    assert_eq!(moved_into(calls, edition, &drawn, form.len() - 1), Err(9), "by {}", calls.name());
-                    assert!(moved_into(calls, edition, &drawn, form.len()).as_ref() == Ok(form), "by {}", calls.name());
-                }
-            }
-            // one line of another party, wherever
-            for place in [0, 2048, 4095] {
-                let mut other = plan.of_party(0);
-                other.lines[place].3 = 7;
-                let bytes = other.bytes();
-                assert_eq!(moved_into(calls, 1, &bytes, 12_367), Err(9), "by {}", calls.name());
-                assert_eq!(moved_into(calls, 1, &bytes, 12_368), Err(17), "by {}", calls.name());
-                assert!(moved_into(calls, 2, &bytes, 16_464).as_ref() == Ok(&bytes), "by {}", calls.name());
-            }
-        }
     }
 }
 

@@ -187,9 +187,9 @@ fn main() {
     let mut r = Random::new(2007, 3);
     println!("Processor time for one operation: the median of {SAMPLES} samples of some 20 ms ({FEW_SAMPLES} where one operation takes");
     println!("longer), taken of both sides in turn, with the quartiles. The timed part is the calls alone, each with all its checks:");
-    println!("from plan bytes for read, write, to edition 1 and 2, count (gawherino_look_ahead), prepare, needs and page; from a table");
-    println!("for a leg (8 on the whole table each time), a whole walk and a step (8 on the whole table too). A leg's time is that of");
-    println!("opening and all legs (20,000 to 1,000,000), divided by their number; a step's that of one by each code, divided by theirs.");
+    println!("from plan bytes for read, write, count (gawherino_look_ahead), prepare, needs and page; from a table for a leg (8 on the");
+    println!("whole table each time), a whole walk and a step (8 on the whole table too). A leg's time is that of opening and all legs");
+    println!("(20,000 to 1,000,000), divided by their number; a step's that of one by each code, divided by theirs.");
     println!();
     println!("| what | library | plain Rust | plain / library |");
     println!("|---|---|---|---|");
@@ -236,30 +236,6 @@ fn main() {
         assert_eq!(written as usize, plan.len());
         row(name, 1, &|calls| {
             black_box(calls.write(black_box(plan), out.borrow_mut().as_mut_slice()));
-        });
-    }
-
-    // the same lines from one edition to the other; and where the last of them, in the order in which they stand, is another party's
-    let mut but_for_one = any_order.of_party(0);
-    but_for_one.lines[MAX_LINES - 1].3 = 7;
-    for (name, edition, plan) in [
-        ("to edition 2, 4,096 lines over 64 × 32 of edition 1 in any order, 64 starts", 2, any_order.bytes()),
-        ("to edition 1, the same of edition 2, party 0", 1, any_order.of_party(0).bytes()),
-        ("to edition 2, plan A", 2, small.clone()),
-        ("to edition 1, refused with 17: the last of the 4,096 lines of another party", 1, but_for_one.bytes()),
-    ] {
-        let room = std::cell::RefCell::new([0; plan::length(2, MAX_STAKES, MAX_LINES)]);
-        let move_to = |calls: &dyn Calls| {
-            let (plan, mut out) = (black_box(&plan), room.borrow_mut());
-            if edition == 1 {
-                calls.to_edition_1(plan, out.as_mut_slice())
-            } else {
-                calls.to_edition_2(plan, out.as_mut_slice())
-            }
-        };
-        assert_eq!(name.contains("17"), agreed(&move_to) == REFUSED + 17, "{name}");
-        row(name, 1, &|calls| {
-            black_box(move_to(calls));
         });
     }
 

@@ -50,20 +50,6 @@ pub fn among_others(r: &mut Random, plan: &Draft) -> (Draft<PartyLine>, u32) {
     (mixed, party)
 }
 
-/// The plan as party 0's in edition 2 but for one line, the first, the last or any, which is another's: one of its own, or the same again.
-pub fn but_for_one(r: &mut Random, plan: &Draft) -> Draft<PartyLine> {
-    let mut plan = plan.of_party(0);
-    let e = plan.lines.len();
-    if e > 0 {
-        let place = r.pick(&[0, e - 1, r.clone().below(e)]);
-        if e < MAX_LINES && r.percent(30) {
-            plan.lines.insert(place + r.below(2), plan.lines[place]);
-        }
-        plan.lines[place].3 = r.among(1, PARTIES as usize - 1) as u8;
-    }
-    plan
-}
-
 /// As a line's party: none of 0 to 7, such too of which a part of the bits would be one.
 pub fn too_high(r: &mut Random) -> u8 {
     let any = r.among(PARTIES as usize, 255) as u8;

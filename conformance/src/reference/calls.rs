@@ -1,6 +1,6 @@
 //! The reference behind the C interface: the header's rules for lent slices, and what is written into them.
 
-use super::forms::{evidence_length, form_length, record_length, table_length, COUNTS, EVIDENCE, NOTHING, REFUSED, VERDICT};
+use super::forms::{evidence_length, record_length, table_length, COUNTS, EVIDENCE, NOTHING, REFUSED, VERDICT};
 use super::plan::{Plan, Read};
 use super::record::{Booking, Record};
 use super::table::{plan_of, table_of};
@@ -89,32 +89,10 @@ fn check(plan: &[u8], party: u32, claim: &[u32], letters: &[u8]) -> Result<u32, 
 }
 
 fn write(plan: &[u8], out: &mut [u8]) -> Result<u32, Refusal> {
-    let read = plan::read(plan)?;
-    let form = plan::form_in(read.edition, &read);
+    let form = plan::one_form(&plan::read(plan)?);
     lent(out, form.len(), "out")?;
     put(out, &form);
     Ok(form.len() as u32)
-}
-
-fn to_edition_1(plan: &[u8], out: &mut [u8]) -> Result<u32, Refusal> {
-    move_to(1, plan, out)
-}
-
-fn to_edition_2(plan: &[u8], out: &mut [u8]) -> Result<u32, Refusal> {
-    move_to(2, plan, out)
-}
-
-/// W-208: "Both write the form of W-201", and "a plan already in the wanted edition is rewritten in that form".
-fn move_to(wanted: usize, plan: &[u8], out: &mut [u8]) -> Result<u32, Refusal> {
-    let read = plan::read(plan)?;
-    lent(out, form_length(wanted, read.p, read.e), "out")?;
-    // "17, a line of another party when moving back, after 9"
-    if wanted == 1 && read.lines.iter().any(|&[_, _, _, party]| party != 0) {
-        return refuse(17, "a line of another party");
-    }
-    let moved = plan::form_in(wanted, &read);
-    put(out, &moved);
-    Ok(moved.len() as u32)
 }
 
 fn needs(plan: &[u8], party: u32, needs: &mut [u16]) -> Result<u32, Refusal> {

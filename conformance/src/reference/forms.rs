@@ -68,11 +68,6 @@ pub fn line_length(edition: usize) -> Option<usize> {
     }
 }
 
-/// W-208, how long a form is in the wanted edition, by the counts alone: 16 + p + 3 × e, or 16 + p + 4 × e.
-pub fn form_length(edition: usize, p: usize, e: usize) -> usize {
-    HEADER + p + line_length(edition).expect("an edition") * e
-}
-
 /// A number of 16 bits, little-endian.
 pub fn number(bytes: &[u8], place: usize) -> usize {
     bytes[2 * place] as usize + 256 * bytes[2 * place + 1] as usize

@@ -21,9 +21,9 @@ pub struct Refusal {
 }
 
 /// "Who can cause which refusal": 1 for the plan author's, 2 for the caller's, 3 for the logger's, each as document 01 lists them; else 0.
-/// W-207's 16 is treated "as 7", and W-208's 17 is of a line too.
+/// W-207's 16 is treated "as 7".
 pub fn group(number: u32) -> u32 {
-    let lists: [&[u32]; 3] = [&[1, 2, 3, 4, 5, 6, 7, 15, 16, 17], &[8, 9, 10, 14], &[11, 12, 13]];
+    let lists: [&[u32]; 3] = [&[1, 2, 3, 4, 5, 6, 7, 15, 16], &[8, 9, 10, 14], &[11, 12, 13]];
     lists.iter().position(|list| list.contains(&number)).map_or(0, |place| place as u32 + 1)
 }
 

@@ -1,5 +1,4 @@
-//! Plan bytes: refusals 1 to 7 and 16 in their order, the plan that the bytes mean for a party, and the one form in which a plan is filed
-//! in each edition.
+//! Plan bytes: refusals 1 to 7 and 16 in their order, the plan that the bytes mean for a party, and the one form in which a plan is filed.
 
 use super::forms::{line_length, number, HEADER, LAST_PARTY, MOST_CODES, MOST_LINES, MOST_STAKES, STARTS};
 use super::{members, refuse, Refusal, Stakes};
@@ -211,17 +210,16 @@ pub fn read(bytes: &[u8]) -> Result<Read, Refusal> {
 }
 
 /// W-201, "one form: starts at 16 ascending, lines directly after them ascending by from, code and to, no gaps"; W-207: it "orders by party
-/// last". The edition is the plan's own at writing, and at moving (W-208) the wanted one: a line has its party there, 0 if it was read in
-/// edition 1, or it has none.
-pub fn form_in(edition: usize, read: &Read) -> Vec<u8> {
-    let width = line_length(edition).expect("an edition");
+/// last". The edition is the plan's own.
+pub fn one_form(read: &Read) -> Vec<u8> {
+    let width = line_length(read.edition).expect("it was read");
     let starts = members(&read.starts);
     let mut lines = read.lines.clone();
     lines.sort();
     let lines_at = HEADER + starts.len();
     let total = lines_at + width * lines.len();
     let mut form = Vec::new();
-    for number in [edition, read.n, read.m, starts.len(), lines.len(), HEADER, lines_at, total] {
+    for number in [read.edition, read.n, read.m, starts.len(), lines.len(), HEADER, lines_at, total] {
         form.push((number % 256) as u8);
         form.push((number / 256) as u8);
     }

@@ -1,7 +1,6 @@
 pub mod Joined
 pub mod Listing
 pub mod Parties
-pub mod Refusals
 pub mod Counting
 pub mod Parsing
 pub mod Ordered

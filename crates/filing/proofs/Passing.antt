@@ -70,41 +70,39 @@ module _ (P : Plan) (W : (party : ℕ) → Within (semiautomaton P party)) (A : 
   lines_once : line_twice P ≡ false
   lines_once = once _ _ (λ i j h g e. before_other (P.line i) (P.line j) (A.lines i j h g) (same_line_lem (P.line i) (P.line j) e))
 
--- the header of a plan's form in an edition
-abbrev pub in_order_of : ℕ → List ℕ → Header
-in_order_of edition plan = header_in_order edition (plan_counts (header_of plan))
+-- the header of a plan's form
+abbrev pub in_order_of : List ℕ → Header
+in_order_of plan = header_in_order (header_of plan).edition (plan_counts (header_of plan))
 
-module _ (edition : ℕ) (plan bytes : List ℕ) (is : header_of bytes ≡ in_order_of edition plan) (same : SameParts (parsed bytes) (parsed plan))
-  where
-    pub same_meaning : (party : ℕ) → meaning bytes party ≡ meaning plan party
-    same_meaning party = λ i. record {
-      n = ap (λ (h : Header). h.n) is i;
-      m = ap (λ (h : Header). h.m) is i;
-      initial = fun_ext same.starts i;
-      edge = fun_ext (λ s. fun_ext (λ a. fun_ext (λ t. same.lines (line s a t party)))) i;
-    }
+module _ (plan bytes : List ℕ) (is : header_of bytes ≡ in_order_of plan) (same : SameParts (parsed bytes) (parsed plan)) where
+  pub same_meaning : (party : ℕ) → meaning bytes party ≡ meaning plan party
+  same_meaning party = λ i. record {
+    n = ap (λ (h : Header). h.n) is i;
+    m = ap (λ (h : Header). h.m) is i;
+    initial = fun_ext same.starts i;
+    edge = fun_ext (λ s. fun_ext (λ a. fun_ext (λ t. same.lines (line s a t party)))) i;
+  }
 
-    -- 16: a line of the bytes is one of the plan
-    parties_low : WellFormed plan → party_high (parsed bytes) ≡ false
-    parties_low w = any_none _ _ (λ i h.
-        let l = (parsed bytes).line i in
-        let of-plan : is_line (parsed plan) l ≡ true = sym (same.lines l) ∙ any_in (parsed bytes).e _ i h (line_same l) in
-        let low = parties_few (has_parties (header_of plan).edition) (line_party _ (parsed plan) (own_parties plan w) l of-plan) in
-        le-ltb max_party l.party (omega arith))
+  -- 16: a line of the bytes is one of the plan
+  parties_low : WellFormed plan → party_high (parsed bytes) ≡ false
+  parties_low w = any_none _ _ (λ i h.
+      let l = (parsed bytes).line i in
+      let of-plan : is_line (parsed plan) l ≡ true = sym (same.lines l) ∙ any_in (parsed bytes).e _ i h (line_same l) in
+      let low = parties_few (has_parties (header_of plan).edition) (line_party _ (parsed plan) (own_parties plan w) l of-plan) in
+      le-ltb max_party l.party (omega arith))
 
-    pub passes : WellFormed plan → (eqb edition 1 || eqb edition 2) ≡ true → length bytes ≡ (header_of bytes).total → Ascends (parsed bytes)
-        → WellFormed bytes
-    unfolding refusal_of plan_checks
-    passes w known long A =
-        let (_, (_, (counts, _))) = well_formed_clear plan w in
-        let W : (party : ℕ) → Within (meaning bytes party) =
-        λ party. subst (λ (S : Semiautomaton). Within S) (sym (same_meaning party)) (well_formed_within plan w party) in
-        let total = ap (λ (h : Header). h.total) is in
-        let c₁ : (ltb (length bytes) 16 || not (eqb (header_of bytes).total (length bytes))) ≡ false =
-        rw (le-ltb (length bytes) 16 (omega arith), eq-eqb (header_of bytes).total (length bytes) (sym long)) in
-        let c₂ = ap (λ (h : Header). not (eqb h.edition 1 || eqb h.edition 2)) is ∙ ap not known in
-        let c₃ = ap (λ (h : Header). count_off h.n h.m h.p h.e) is ∙ counts in
-        let c₄ = ap misplaced is ∙ without_gaps edition (plan_counts (header_of plan)) in
-        let c₅ = starts_fit (parsed bytes) W A in
-        let c₆ = lines_fit (parsed bytes) W A in
-        passed_first (plan_checks bytes) (c₁, (c₂, (c₃, (c₄, (c₅, (c₆, (lines_once (parsed bytes) W A, (parties_low w, tt))))))))
+  pub passes : WellFormed plan → length bytes ≡ (header_of bytes).total → Ascends (parsed bytes) → WellFormed bytes
+  unfolding refusal_of plan_checks
+  passes w long A =
+      let (_, (edition, (counts, _))) = well_formed_clear plan w in
+      let W : (party : ℕ) → Within (meaning bytes party) =
+      λ party. subst (λ (S : Semiautomaton). Within S) (sym (same_meaning party)) (well_formed_within plan w party) in
+      let total = ap (λ (h : Header). h.total) is in
+      let c₁ : (ltb (length bytes) 16 || not (eqb (header_of bytes).total (length bytes))) ≡ false =
+      rw (le-ltb (length bytes) 16 (omega arith), eq-eqb (header_of bytes).total (length bytes) (sym long)) in
+      let c₂ = ap (λ (h : Header). not (eqb h.edition 1 || eqb h.edition 2)) is ∙ edition in
+      let c₃ = ap (λ (h : Header). count_off h.n h.m h.p h.e) is ∙ counts in
+      let c₄ = ap misplaced is ∙ without_gaps (header_of plan).edition (plan_counts (header_of plan)) in
+      let c₅ = starts_fit (parsed bytes) W A in
+      let c₆ = lines_fit (parsed bytes) W A in
+      passed_first (plan_checks bytes) (c₁, (c₂, (c₃, (c₄, (c₅, (c₆, (lines_once (parsed bytes) W A, (parties_low w, tt))))))))

@@ -1,11 +1,11 @@
 // The archive for C: every call by its name in include/gawherino.h, as the crates of calls have them.
 ghost use Rattle.std.specs.Prelude.{◌≡◌};
 ghost use Rattle.refusals.specs.Groups.{group_of};
-ghost use Rattle.plan.specs.Bytes.{header_of, asked};
+ghost use Rattle.plan.specs.Bytes.{asked};
 ghost use Rattle.prepare.specs.Preparing.{Draws};
 ghost use Rattle.numbers.specs.Numbers.{group_number};
-ghost use Rattle.plan_calls.specs.Promises.{PassesReading, PassesPrepared, PassesCount, PassesCheck, PassesNeeds, PassesPage};
-ghost use Rattle.filing_calls.specs.Promises.{PassesWriting};
+ghost use Rattle.plan_calls.specs.Promises.{PassesReading, PassesPrepared, PassesCount, PassesCheck, PassesWriting, PassesNeeds};
+ghost use Rattle.plan_calls.specs.Promises.{PassesPage};
 ghost use Rattle.table_calls.specs.Promises.{PassesStep, PassesWalk, PassesVerdict};
 ghost use Rattle.record_calls.specs.Promises.{PassesOpening, PassesLetter, PassesEnding};
 
@@ -64,6 +64,14 @@ pub extern "C" fn gawherino_check(plan: &[u8], party: u32, claim: &[u32], letter
     plan_calls::check(plan, party, claim, letters)
 }
 
+// Writing a plan in the form to file: how many bytes.
+#[unsafe(no_mangle)]
+pub extern "C" fn gawherino_write(plan: &[u8], out: &mut [u8]) -> u32
+    ensures { PassesWriting plan.now result out.old out.new }
+{
+    plan_calls::write(plan, out)
+}
+
 // The need of each critical set: how many numbers.
 #[unsafe(no_mangle)]
 pub extern "C" fn gawherino_needs(plan: &[u8], party: u32, needs: &mut [u16]) -> u32
@@ -84,32 +92,6 @@ pub extern "C" fn gawherino_page(
         length.new }
 {
     plan_calls::page(plan, party, page, length)
-}
-
-// CALLS THAT WRITE A PLAN'S FORM
-
-// Writing a plan in the form to file, in its own edition: how many bytes.
-#[unsafe(no_mangle)]
-pub extern "C" fn gawherino_write(plan: &[u8], out: &mut [u8]) -> u32
-    ensures { PassesWriting (header_of plan.now).edition plan.now result out.old out.new }
-{
-    filing_calls::write(plan, out)
-}
-
-// Moving a plan to edition 1, in that form: how many bytes.
-#[unsafe(no_mangle)]
-pub extern "C" fn gawherino_to_edition_1(plan: &[u8], out: &mut [u8]) -> u32
-    ensures { PassesWriting 1 plan.now result out.old out.new }
-{
-    filing_calls::to_edition_1(plan, out)
-}
-
-// Moving a plan to edition 2, in that form: how many bytes.
-#[unsafe(no_mangle)]
-pub extern "C" fn gawherino_to_edition_2(plan: &[u8], out: &mut [u8]) -> u32
-    ensures { PassesWriting 2 plan.now result out.old out.new }
-{
-    filing_calls::to_edition_2(plan, out)
 }
 
 // CALLS ON A TABLE

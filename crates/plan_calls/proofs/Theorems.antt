@@ -11,6 +11,7 @@ use Rattle.semiautomata.specs.Predictability.{Critical, named, Lookahead}
 use Rattle.semiautomata.specs.Sizes.{endless}
 use Rattle.refusals.specs.Outcomes.{Outcome, refused, answered, refusing}
 use Rattle.plan.specs.Asked.{Asked, refusal_of, Passes, Proper}
+use Rattle.plan.specs.Bytes.{unnamed}
 use Rattle.plan.proofs.Asked.{clear_passes}
 use Rattle.plan.proofs.Refusals.{unnamed_proper}
 use Rattle.prepare.specs.declared.Prepared.{Prepared}
@@ -19,6 +20,11 @@ use Rattle.prepare.specs.Preparing.{LooksAhead, outcome_of_prepared, as_number, 
 use Rattle.prepare.specs.Theorems.{EitherCall}
 use Rattle.prepare.proofs.Answers.{small}
 use Rattle.prepare.proofs.Theorems.{theorems as preparing-theorems}
+use Rattle.filing.specs.declared.Writing.{Writing}
+use Rattle.filing.specs.declared.Writing.TheVariants.{Bytes, Refused}
+use Rattle.filing.specs.Writing.{Writes}
+use Rattle.filing.specs.Theorems.{WrittenFor}
+use Rattle.filing.proofs.Form.{written_few}
 use Rattle.needs.specs.declared.Needs.{Needs}
 use Rattle.needs.specs.declared.Needs.TheVariants as told
 use Rattle.needs.specs.Needs.{Of, place_of, TellsNeeds, largest, outcome_of_needs, NeedsOf}
@@ -32,8 +38,8 @@ use Rattle.pages.specs.Paging.{outcome_of_page, PageOf}
 use Rattle.pages.proofs.Theorems.{met as pages-met}
 use Rattle.numbers.specs.Numbers.{Passed, Number, value, refusal as refusal-number, answers, refuses}
 use Rattle.numbers.proofs.Answering.{gives_number}
-use Rattle.plan_calls.specs.Promises.{evidence_of, of_needs, of_page, claim_of, PassesPage}
-use Rattle.plan_calls.specs.Theorems.{AnswersAhead, prepared, counted, drawn, ShowsEvidence, ReadingMet, Met}
+use Rattle.plan_calls.specs.Promises.{evidence_of, of_writing, of_needs, of_page, claim_of, PassesPage}
+use Rattle.plan_calls.specs.Theorems.{AnswersAhead, prepared, counted, drawn, ShowsEvidence, Unnamed, Met}
 use Rattle.plan_calls.proofs.Answering.{unread_number, short_number, reading_number, prepared_number, counted_number, checked_number}
 
 drawn_number : (A : Asked) → Proper A → {r : ℕ} → Draws A r → Number r
@@ -43,6 +49,16 @@ drawn_number A P d = rw d.is (go d.outcome d.looks_ahead)
     go (refused r) (inl (e, n)) = unread_number A P e n
     go (refused r) (inr (_, e, _)) = refusal-number 15 (omega arith) (omega arith) (rw e)
     go (answered k) (w, l) = let h = small (P.sized w) k l in value (omega arith)
+
+-- what writing answers, and what it wrote
+written_number : (plan old out : List ℕ) (a : Writing) → Writes plan a old out → Number (of_writing a).first
+written_number plan old out (Bytes count) w = value (omega (arith, written_few plan old out count w))
+written_number plan old out (Refused r) (e, z, _) = short_number (unnamed plan) (unnamed_proper plan) _ e z
+
+written_for : (plan old out : List ℕ) (r : ℕ) (a : Writing) → Writes plan a old out → r ≡ (of_writing a).first → r < 65536
+    → WrittenFor plan (take r out)
+written_for plan old out r (Bytes count) w e h = record { count = count; old = old; out = out; writes = w; are = rw e }
+written_for plan old out r (Refused x) w e h = absurd (omega arith)
 
 -- how many needs there are, and what they tell
 needed_number : (A : Asked) (P : Proper A) (old needs : List ℕ) (a : Needs) → NeedsOf A a old needs → Number (of_needs a).first
@@ -149,8 +165,12 @@ module _ (A : Asked) (P : Proper A) (w : Passes A) where
     evidence_ahead (inr (old, letters, _, _, answers _ a d p)) = shown a old letters _ (inl d) p.answered p.written
     evidence_ahead (inr (_, _, _, room, refuses short _ _ _)) = absurd (omega arith)
 
-pub reading_met : ReadingMet
-reading_met plan old counts r = gives_number (unnamed_proper plan).numbered (reading_number plan)
+pub unnamed_so : (r : ℕ) → Unnamed r
+unnamed_so r = record {
+  reading = λ plan old counts. gives_number (unnamed_proper plan).numbered (reading_number plan);
+  writing = λ plan old out p. rw p.passed.answered (written_number plan old out p.answer p.meets);
+  written = λ plan old out p. written_for plan old out r p.answer p.meets p.passed.answered;
+}
 
 pub theorems : Met
 theorems A P r = record {

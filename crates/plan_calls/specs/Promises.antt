@@ -12,6 +12,8 @@ use Rattle.claim.specs.Checking.{Checks, outcome_of_checked}
 use Rattle.prepare.specs.declared.Prepared.{Prepared}
 use Rattle.prepare.specs.declared.Prepared.TheVariants.{Ready, Refused, Unpredictable}
 use Rattle.prepare.specs.Preparing.{Prepares, CountsTo, outcome_of_prepared, as_number}
+use Rattle.filing.specs.declared.Writing.{Writing}
+use Rattle.filing.specs.Writing.{Writes, outcome_of_writing}
 use Rattle.needs.specs.declared.Needs.{Needs}
 use Rattle.needs.specs.Needs.{NeedsOf, outcome_of_needs}
 use Rattle.pages.specs.declared.Page.{Page}
@@ -36,6 +38,10 @@ of_prepared a = valued (as_number (outcome_of_prepared a)) (evidence_of a)
 -- 1 for yes, 0 for no.
 abbrev pub of_checked : Checked → Numbers
 of_checked a = in_numbers (λ yes. valued (one_if yes) []) (outcome_of_checked a)
+
+-- How many bytes.
+abbrev pub of_writing : Writing → Numbers
+of_writing a = in_numbers (λ count. valued count []) (outcome_of_writing a)
 
 -- How many needs.
 abbrev pub of_needs : Needs → Numbers
@@ -75,6 +81,11 @@ pub record PassesCheck (A : Asked) (claim letters : List ℕ) (r : ℕ) : Type 0
   pub meets : Checks A (claim_of claim) letters answer
   pub passed : Passed (of_checked answer) r [] []
   pub short : length claim < 6 → ¬ (r ≡ 1)
+
+pub record PassesWriting (plan : List ℕ) (r : ℕ) (old out : List ℕ) : Type 0 where
+  pub answer : Writing
+  pub meets : Writes plan answer old out
+  pub passed : Passed (of_writing answer) r [] []
 
 pub record PassesNeeds (A : Asked) (r : ℕ) (old needs : List ℕ) : Type 0 where
   pub answer : Needs

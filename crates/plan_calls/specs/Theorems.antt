@@ -1,5 +1,6 @@
 -- What follows of the promises on plans for C: whatever a call is lent, it answers a value below 65,536, or 65,536 plus the number of a
--- refusal; the needs are those that crate needs speaks of, and the page is that of which crate pages speaks.
+-- refusal; what writing wrote is what the theorems of crate filing speak of, the needs are those that crate needs speaks of, and the page
+-- is that of which crate pages speaks.
 -- proofs/Theorems.antt has the proofs.
 -- Assumes nothing.
 use Rattle.std.specs.Prelude.{ℕ, ◌+◌, ◌*◌, ◌≤◌, ◌<◌, ◌⊎◌, ◌↔◌, ◌≡◌, List, length, get_or, take}
@@ -9,6 +10,7 @@ use Rattle.semiautomata.specs.Sizes.{endless}
 use Rattle.plan.specs.Asked.{Asked, Passes, Proper}
 use Rattle.table.specs.Table.{sets_from}
 use Rattle.prepare.specs.Preparing.{Draws}
+use Rattle.filing.specs.Theorems.{WrittenFor}
 use Rattle.needs.specs.Needs.{Of, place_of, entries, TellsNeeds, largest}
 use Rattle.needs.specs.Theorems.{SomeEndless}
 use Rattle.needs.specs.Theorems as needs_theorems
@@ -16,7 +18,8 @@ use Rattle.pages.specs.Page.{page, max_page}
 use Rattle.pages.specs.Theorems as pages_theorems
 use Rattle.refusals.specs.Outcomes.{refusing}
 use Rattle.numbers.specs.Numbers.{Number}
-use Rattle.plan_calls.specs.Promises.{PassesReading, PassesPrepared, PassesCount, PassesCheck, PassesNeeds, PassesPage}
+use Rattle.plan_calls.specs.Promises.{PassesReading, PassesPrepared, PassesCount, PassesCheck, PassesWriting, PassesNeeds}
+use Rattle.plan_calls.specs.Promises.{PassesPage}
 
 -- What preparing, the count call or the drawing program's entry (which asks for party 0) answers for C, buffers lent to it being long
 -- enough.
@@ -36,11 +39,14 @@ ShowsEvidence A evidence =
     ⊎ ((old : List ℕ) × (letters : List ℕ) × (old' : List ℕ) × (6 ≤ length old')
     × PassesCount A (refusing 15) old letters old' evidence)
 
--- Of reading, which names no party.
-abbrev pub ReadingMet : Type 0
-ReadingMet = (plan old counts : List ℕ) (r : ℕ) → PassesReading plan r old counts → Number r
+-- Of the calls that name no party, reading and writing.
+pub record Unnamed (r : ℕ) : Type 0 where
+  pub reading : (plan old counts : List ℕ) → PassesReading plan r old counts → Number r
+  pub writing : (plan old out : List ℕ) → PassesWriting plan r old out → Number r
+  -- What a call that was not refused wrote is what filing/specs/Theorems speaks of.
+  pub written : (plan old out : List ℕ) → PassesWriting plan r old out → r < 65536 → WrittenFor plan (take r out)
 
--- Of the calls that name one, whatever they ask.
+-- Of those that name one, whatever they ask.
 pub record Theorems (A : Asked) (r : ℕ) : Type 0 where
   pub preparing : (old table old' letters old'' evidence : List ℕ)
       → PassesPrepared A r old table old' letters old'' evidence → Number r

@@ -1,15 +1,16 @@
-// The calls for C that say something of plan bytes, over plain numbers and lent slices: reading, preparing, the count call, the drawing
-// program's entry, the check of a claim, the needs of the critical sets and their page. Where a slice for further values has too few places
-// for the most that a call may have to put there, the call is refused with 9 before anything is written.
+// The calls on plan bytes for C, over plain numbers and lent slices: reading, preparing, the count call, the drawing program's entry, the
+// check of a claim, writing, the needs of the critical sets and their page. Where a slice for further values has too few places for the
+// most that a call may have to put there, the call is refused with 9 before anything is written.
 ghost use Rattle.std.specs.Prelude.{◌≡◌, ◌≤◌, length, get_or};
 ghost use Rattle.plan.specs.Bytes.{asked_checks, asked};
 ghost use Rattle.prepare.specs.Preparing.{Draws};
 ghost use Rattle.numbers.specs.Numbers.{Passed, no_room};
 ghost use Rattle.plan_calls.specs.Promises.{of_prepared, claim_of, PassesReading, PassesPrepared, PassesCount, PassesCheck};
-ghost use Rattle.plan_calls.specs.Promises.{PassesNeeds, PassesPage};
+ghost use Rattle.plan_calls.specs.Promises.{PassesWriting, PassesNeeds, PassesPage};
 ghost use Rattle.plan_calls.specs.inner.Sizes.{Fit32};
 
 use claim::Checked;
+use filing::Writing;
 use lookahead::Evidence;
 use needs::Needs;
 use numbers::REFUSED;
@@ -146,6 +147,17 @@ pub fn check(plan: &[u8], party: u32, claim: &[u32], letters: &[u8]) -> u32
         Checked::Yes => 1,
         Checked::No => 0,
         Checked::Refused(r) => REFUSED + r as u32,
+    }
+}
+
+// Writing a plan in the form to file: how many bytes.
+pub fn write(plan: &[u8], out: &mut [u8]) -> u32
+    ensures { PassesWriting plan.now result out.old out.new }
+{
+    let written = filing::write(plan, out);
+    match written {
+        Writing::Bytes(count) => count as u32,
+        Writing::Refused(r) => REFUSED + r as u32,
     }
 }
 

@@ -1,9 +1,11 @@
 -- Who can cause a refusal, by the range that its number lies in.
 -- Assumes nothing.
 use Prim.Native.Nat.{ℕ, ◌≤◌, ◌<◌}
-use mathlib.Core.Bool.{true, false, and-false}
+use mathlib.Core.Bool.{true, false, ◌||◌, and-false}
 use mathlib.Core.Path.{◌≡◌}
 use native.Mathlib.Omega.{arith}
+use native.Mathlib.Decide.{ℕ_discrete}
+use lib.Dec.{eqb}
 use borrow.Author.Tests.{le-leb, lt-leb, ne_eqb}
 use Rattle.refusals.specs.Checks.{within}
 use Rattle.refusals.specs.Groups.{group_of}
@@ -16,22 +18,22 @@ module _ (x : ℕ) where
   above : (a b : ℕ) → b < x → within a b x ≡ false
   above a b h = rw (lt-leb x b h, and-false)
 
-  below : (a b : ℕ) → x < a → within a b x ≡ false
-  below a b h = rw (lt-leb a x h)
+  none_between : 7 < x → x < 15 → (eqb x 15 || eqb x 16) ≡ false
+  none_between h g = rw (ne_eqb x 15 (omega arith), ne_eqb x 16 (omega arith))
 
   pub author : 1 ≤ x → x ≤ 7 → Author ≡ group_of x
   author h g = rw (inside 1 7 h g)
 
-  pub author_last : 15 ≤ x → x ≤ 17 → Author ≡ group_of x
-  author_last h g = rw (above 1 7 (omega arith), inside 15 17 h g)
+  pub author_last : 15 ≤ x → x ≤ 16 → Author ≡ group_of x
+  author_last h g = elim (ℕ_discrete x 15) [ yes e ↦ rw e | no n ↦ let e : x ≡ 16 = omega arith in rw e ]
 
   pub caller : 8 ≤ x → x ≤ 10 → Caller ≡ group_of x
-  caller h g = rw (above 1 7 (omega arith), below 15 17 (omega arith), inside 8 10 h g)
+  caller h g = rw (above 1 7 (omega arith), none_between (omega arith) (omega arith), inside 8 10 h g)
 
   pub logger : 11 ≤ x → x ≤ 13 → Logger ≡ group_of x
   logger h g = rw (
     above 1 7 (omega arith),
-    below 15 17 (omega arith),
+    none_between (omega arith) (omega arith),
     above 8 10 (omega arith),
     ne_eqb x 14 (omega arith),
     inside 11 13 h g,
@@ -40,10 +42,11 @@ module _ (x : ℕ) where
   pub nobody_low : x < 1 → Nobody ≡ group_of x
   nobody_low h = let e : x ≡ 0 = omega arith in rw e
 
-  pub nobody_high : 17 < x → Nobody ≡ group_of x
+  pub nobody_high : 16 < x → Nobody ≡ group_of x
   nobody_high h = rw (
     above 1 7 (omega arith),
-    above 15 17 (omega arith),
+    ne_eqb x 15 (omega arith),
+    ne_eqb x 16 (omega arith),
     above 8 10 (omega arith),
     ne_eqb x 14 (omega arith),
     above 11 13 (omega arith),

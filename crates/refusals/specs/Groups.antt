@@ -1,5 +1,5 @@
--- Who can cause which refusal (document 01; 16 and 17: document 02, W-207 and W-208): the plan's author 1 to 7 and 15 to 17, the caller 8
--- to 10 and 14, the logger 11 to 13; and the last of their numbers.
+-- Who can cause which refusal (document 01; 16: document 02, W-207): the plan's author 1 to 7, 15 and 16, the caller 8 to 10 and 14, the
+-- logger 11 to 13; and the last of their numbers.
 -- Assumes nothing.
 use Rattle.std.specs.Prelude.{ℕ, cond, ◌||◌, eqb}
 use Rattle.refusals.specs.Checks.{within}
@@ -8,8 +8,8 @@ use Rattle.refusals.specs.declared.Group.TheVariants.{Author, Caller, Logger, No
 
 abbrev pub group_of : ℕ → Group
 group_of x =
-    cond (within 1 7 x || within 15 17 x) Author (cond (within 8 10 x || eqb x 14) Caller (cond (within 11 13 x) Logger Nobody))
+    cond (within 1 7 x || (eqb x 15 || eqb x 16)) Author (cond (within 8 10 x || eqb x 14) Caller (cond (within 11 13 x) Logger Nobody))
 
 -- The highest number of a refusal.
 abbrev pub last_refusal : ℕ
-last_refusal = 17
+last_refusal = 16

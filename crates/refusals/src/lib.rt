@@ -15,7 +15,7 @@ pub fn group_of(number: u8) -> Group
     ensures { result ≡ group_of number }
 {
     match number {
-        1..=7 | 15..=17 => Group::Author,
+        1..=7 | 15 | 16 => Group::Author,
         8..=10 | 14 => Group::Caller,
         11..=13 => Group::Logger,
         _ => Group::Nobody,
