@@ -1,6 +1,8 @@
 // Sets of states as 64-bit numbers: state s is a member where bit s is 1.
 // Union, intersection and the least member are the operators |, & and u64::trailing_zeros, whose laws are in proofs/.
 // Here are the three that need care with numbers of 64 and more, which no set contains.
+#![tactic(auto)]
+
 ghost use Rattle.std.specs.Prelude.{◌≡◌, ltb};
 ghost use Rattle.bitset.specs.Sets.{single};
 ghost use Rattle.bitset.specs.Numbers.{has, set_of};

@@ -1,4 +1,6 @@
 // Numbers as decimal digits, right-aligned: the one writer of numbers, for the report's lines and for the page's.
+#![tactic(auto)]
+
 ghost use Rattle.std.specs.Prelude.{◌≤◌, length};
 ghost use Rattle.decimals.specs.Decimals.{decimal, RightAligned};
 

@@ -1,4 +1,6 @@
 // Little-endian numbers in bytes, as plans and records have them: read at a place, and written at a place of a buffer that keeps its rest.
+#![tactic(auto)]
+
 ghost use Rattle.std.specs.Prelude.{◌≡◌, ◌+◌, ◌≤◌, ◌<◌, length, get_or};
 ghost use Rattle.endian.specs.Numbers.{number_at, bytes_of};
 ghost use Rattle.slices.specs.Copying.{pasted};

@@ -1,4 +1,6 @@
 // The report's lines, each written at a place of a buffer that keeps the rest; the answer is the place behind the line.
+#![tactic(auto)]
+
 ghost use Rattle.std.specs.Prelude.{cond, []};
 ghost use Rattle.bitset.specs.Numbers.{has};
 ghost use Rattle.slices.specs.Appending.{Room, Appended};

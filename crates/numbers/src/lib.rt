@@ -1,5 +1,7 @@
 // What every call for C answers: one number, a value below 65,536 or 65,536 plus the refusal; further values go to the front of a lent
 // slice. And the one call on numbers alone, the group of a refusal.
+#![tactic(auto)]
+
 ghost use Rattle.std.specs.Prelude.{◌≡◌};
 ghost use Rattle.refusals.specs.Groups.{group_of};
 ghost use Rattle.numbers.specs.Numbers.{group_number};

@@ -1,4 +1,6 @@
 // Refusals: who can cause which. Their order in each call is a list of checks (specs/Checks).
+#![tactic(auto)]
+
 ghost use Rattle.std.specs.Prelude.{◌≡◌};
 ghost use Rattle.refusals.specs.Groups.{group_of};
 

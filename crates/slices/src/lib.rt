@@ -1,4 +1,6 @@
 // Copying into a lent slice that keeps its rest, for each width of element; and bytes put one after the other.
+#![tactic(auto)]
+
 ghost use Rattle.std.specs.Prelude.{◌≡◌, ◌≤◌, length};
 ghost use Rattle.slices.specs.Copying.{at_front};
 ghost use Rattle.slices.specs.Appending.{Room, Appended};

@@ -7,14 +7,14 @@ use borrow.Author.Rules.{rules}
 use Rattle.endian.proofs.byte_at.Statement.{statement}
 use Rattle.endian.proofs.byte_at.Tie as tie
 
-cast-result : tie.Need-overflow-cast-result
-cast-result c = omega (arith, c.shared-slice-known.given c.before.before.args.i)
+cast-result : tie.Need-overflow_cast-result
+cast-result c = omega (arith, c.shared_slice_known-1.given c.before.before.args.i)
 
-returns : tie.Need-returns
-returns c = (refl, omega (arith, c.shared-slice-known.given c.before.before.args.i))
+returns : tie.Need-returns-then-i-bytes
+returns c = (refl, omega (arith, c.shared_slice_known-1.given c.before.before.args.i))
 
-returns-2 : tie.Need-returns-2
-returns-2 c = (sym (get_or-eq_default c.before.args.bytes.now 0 {n = c.before.args.i} c.if1.false), omega arith)
+returns-2 : tie.Need-returns-else-i-bytes
+returns-2 c = (sym (get_or-eq_default c.before.args.bytes.now 0 {n = c.before.args.i} c.if-i-bytes.false), omega arith)
 
-pub byte-at-spec : {M : Type 1} → statement M
-byte-at-spec = tie.close (tie.spec (λ c. search rules) cast-result returns returns-2)
+pub byte_at_spec : {M : Type 1} → statement M
+byte_at_spec = tie.close (tie.spec (λ c. search rules) cast-result returns returns-2)

@@ -9,10 +9,10 @@ returns : tie.Need-returns
 returns c =
     let low = c.before in
     let a = low.before.before.args in
-    rw (low.read-2.ensures.0, c.read-22.ensures.0) (halves a.bytes.now a.at)
+    rw (low.read_2-low.ensures.0, c.read_2-high.ensures.0) (halves a.bytes.now a.at)
 
-pub read-4-spec : {M : Type 1} → statement M
-read-4-spec =
+pub read_4_spec : {M : Type 1} → statement M
+read_4_spec =
     tie.close
     (tie.spec
     (λ c κs. search rules)

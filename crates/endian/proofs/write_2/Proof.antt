@@ -12,8 +12,8 @@ use Rattle.endian.proofs.write_2.Tie as tie
 returns : tie.Need-returns
 returns c = let a = c.args in rw add-one (sets-eq (bytes_of 2 a.x) a.bytes.now a.at c.requires)
 
-pub write-2-spec : {M : Type 1} → statement M
-write-2-spec =
+pub write_2_spec : {M : Type 1} → statement M
+write_2_spec =
     tie.close
     (tie.spec
     (λ c. search rules)

@@ -18,8 +18,8 @@ returns c =
     let three : a.at + 3 ≡ suc (suc (suc a.at)) = omega arith in
     rw (add-one, two, three) (sets-eq (bytes_of 4 a.x) a.bytes.now a.at c.requires)
 
-pub write-4-spec : {M : Type 1} → statement M
-write-4-spec =
+pub write_4_spec : {M : Type 1} → statement M
+write_4_spec =
     tie.close
     (tie.spec
     (λ c. search rules)

@@ -7,7 +7,7 @@ use borrow.Author.Rules.{rules}
 use Rattle.lines.proofs.field.Statement.{statement}
 use Rattle.lines.proofs.field.Tie as tie
 
-append-requires : tie.Need-append-requires
+append-requires : tie.Need-append-end-requires
 unfolding field
 append-requires c κs = let s = c.before.before.before in room_left s.args.word.now (decimal s.args.x) s.requires
 
@@ -15,13 +15,13 @@ number-requires : tie.Need-number-requires
 unfolding field
 number-requires c κs =
     let start = c.before.before.before.before.before.before.before in
-    room_on c.before.before.before.append.ensures start.requires
+    room_on c.before.before.before.append-end.ensures start.requires
 
 returns : tie.Need-returns
 unfolding field
 returns c =
     let at-append = c.before.before.before.before.before.before in
-    appended_on at-append.append.ensures c.before.before.number.ensures
+    appended_on at-append.append-end.ensures c.before.before.number.ensures
 
-pub field-spec : {M : Type 1} → statement M
-field-spec = tie.close (tie.spec append-requires number-requires (λ c. search rules) returns)
+pub field_spec : {M : Type 1} → statement M
+field_spec = tie.close (tie.spec append-requires number-requires (λ c. search rules) returns)

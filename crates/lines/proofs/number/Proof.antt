@@ -11,12 +11,12 @@ use borrow.Author.Rules.{rules}
 use Rattle.lines.proofs.number.Statement.{statement}
 use Rattle.lines.proofs.number.Tie as tie
 
-right-requires : tie.Need-right-requires
+right-requires : tie.Need-right-first-requires
 right-requires c κs = omega (arith, decimal_length 19 c.before.before.args.x (omega arith))
 
 -- what is lent on is the number
-shown : (c : tie.After-right) → take (20 - c.right.result) (drop c.right.result c.right.new.0) ≡ decimal c.before.before.before.args.x
-shown c = right_shown c.right.ensures (20 - c.right.result) (omega arith)
+shown : (c : tie.After-right-first) → take (20 - c.right-first.result) (drop c.right-first.result c.right-first.new.0) ≡ decimal c.before.before.before.args.x
+shown c = right_shown c.right-first.ensures (20 - c.right-first.result) (omega arith)
 
 append-requires : tie.Need-append-requires
 append-requires c κs =
@@ -28,8 +28,8 @@ returns c =
     let r = c.before.before.before.before.before.before.before in
     rw (shown r) at c.before.before.append.ensures
 
-pub number-spec : {M : Type 1} → statement M
-number-spec =
+pub number_spec : {M : Type 1} → statement M
+number_spec =
     tie.close
     (tie.spec
     (λ c. search rules)

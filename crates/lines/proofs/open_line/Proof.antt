@@ -10,13 +10,13 @@ use borrow.Author.Rules.{rules}
 use Rattle.lines.proofs.open_line.Statement.{statement}
 use Rattle.lines.proofs.open_line.Tie as tie
 
-abbrev from-1 : tie.After-field → tie.Start
+abbrev from-1 : tie.After-field-end → tie.Start
 from-1 c = c.before.before.before.before
 
-abbrev from-2 : tie.After-append → tie.After-field
+abbrev from-2 : tie.After-append-word → tie.After-field-end
 from-2 c = c.before.before.before.before.before
 
-abbrev from-3 : tie.After-members → tie.After-append
+abbrev from-3 : tie.After-members-states → tie.After-append-word
 from-3 c = c.before.before.before.before
 
 -- the line up to each part
@@ -33,26 +33,26 @@ room-3 s = room_left (three s) line_feed s.requires
 room-2 : (s : tie.Start) → Room s.args.out.now s.args.at (two s)
 room-2 s = room_left (two s) (listed 64 (has s.args.set)) (room-3 s)
 
-put_2 : (c : tie.After-append) → let s = from-1 (from-2 c) in
-    Appended s.args.out.now s.args.at (two s) c.append.result c.append.new.0
-put_2 c = appended_on (from-2 c).field.ensures c.append.ensures
+put_2 : (c : tie.After-append-word) → let s = from-1 (from-2 c) in
+    Appended s.args.out.now s.args.at (two s) c.append-word.result c.append-word.new.0
+put_2 c = appended_on (from-2 c).field-end.ensures c.append-word.ensures
 
-put_3 : (c : tie.After-members) → let s = from-1 (from-2 (from-3 c)) in
-    Appended s.args.out.now s.args.at (three s) c.members.result c.members.new.0
-put_3 c = appended_on (put_2 (from-3 c)) c.members.ensures
+put_3 : (c : tie.After-members-states) → let s = from-1 (from-2 (from-3 c)) in
+    Appended s.args.out.now s.args.at (three s) c.members-states.result c.members-states.new.0
+put_3 c = appended_on (put_2 (from-3 c)) c.members-states.ensures
 
-field-requires : tie.Need-field-requires
+field-requires : tie.Need-field-end-requires
 field-requires c κs = let s = c.before.before.before in room_left (field open_word s.args.position) stakes_are (room-2 s)
 
-append-requires : tie.Need-append-requires
+append-requires : tie.Need-append-word-requires
 append-requires c κs =
     let at_field = c.before.before.before.before in
-    room_on at_field.field.ensures (room-2 (from-1 at_field))
+    room_on at_field.field-end.ensures (room-2 (from-1 at_field))
 
-members-requires : tie.Need-members-requires
+members-requires : tie.Need-members-states-requires
 members-requires c κs = room_on (put_2 c.before.before.before) (room-3 (from-1 (from-2 c.before.before.before)))
 
-append-requires-2 : tie.Need-append-requires-2
+append-requires-2 : tie.Need-append-requires
 unfolding open_line
 append-requires-2 c κs =
     let back-4 = c.before.before.before.before in
@@ -62,10 +62,10 @@ returns : tie.Need-returns
 unfolding open_line
 returns c =
     let back-7 = c.before.before.before.before.before.before.before in
-    appended_on (put_3 back-7) c.before.before.append2.ensures
+    appended_on (put_3 back-7) c.before.before.append.ensures
 
-pub open-line-spec : {M : Type 1} → statement M
-open-line-spec =
+pub open_line_spec : {M : Type 1} → statement M
+open_line_spec =
     tie.close
     (tie.spec
     (λ c. search rules)

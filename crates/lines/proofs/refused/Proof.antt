@@ -14,23 +14,23 @@ both : (s : tie.Start)
 unfolding refused_line
 both s = room_left (field refused_word s.args.number ++ group_word (group_of s.args.number)) line_feed s.requires
 
-put : (c : tie.After-group) → let s = c.before.before.before.before.before.before.before.before.before in
+put : (c : tie.After-group-who) → let s = c.before.before.before.before.before.before.before.before.before in
     Appended s.args.out.now s.args.at (field refused_word s.args.number ++ group_word (group_of s.args.number))
-    c.group.result c.group.new.0
+    c.group-who.result c.group-who.new.0
 put c =
     let at_field = c.before.before.before.before.before in
-    appended_on at_field.field.ensures (rw c.before.Group-of.ensures at c.group.ensures)
+    appended_on at_field.field-end.ensures (rw c.before.group_of.ensures at c.group-who.ensures)
 
-field-requires : tie.Need-field-requires
+field-requires : tie.Need-field-end-requires
 field-requires c κs = let s = c.before.before.before in
     room_left (field refused_word s.args.number) (group_word (group_of s.args.number)) (both s)
 
-group-requires : tie.Need-group-requires
+group-requires : tie.Need-group-who-requires
 group-requires c κs =
     let at-field-4 = c.before.before.before.before in
     let back-8 = at-field-4.before.before.before.before in
-    rw c.Group-of.ensures
-    (room_on at-field-4.field.ensures
+    rw c.group_of.ensures
+    (room_on at-field-4.field-end.ensures
     (both back-8))
 
 append-requires : tie.Need-append-requires
@@ -47,8 +47,8 @@ returns c =
     let back-7 = c.before.before.before.before.before.before.before in
     appended_on (put back-7) c.before.before.append.ensures
 
-pub refused-spec : {M : Type 1} → statement M
-refused-spec =
+pub refused_spec : {M : Type 1} → statement M
+refused_spec =
     tie.close
     (tie.spec
     (λ c. search rules)

@@ -12,15 +12,15 @@ both : (s : tie.Start) → Room s.args.out.now s.args.at (field at_word s.args.p
 unfolding resolution_line
 both s = room_left (field at_word s.args.position ++ field stake s.args.state) line_feed s.requires
 
-field-requires : tie.Need-field-requires
+field-requires : tie.Need-field-end-requires
 field-requires c κs = let s = c.before.before.before in
     room_left (field at_word s.args.position) (field stake s.args.state) (both s)
 
-field-requires-2 : tie.Need-field-requires-2
+field-requires-2 : tie.Need-field-state_end-requires
 field-requires-2 c κs =
     let at-field-4 = c.before.before.before.before in
     let back-8 = at-field-4.before.before.before.before in
-    room_on at-field-4.field.ensures (both back-8)
+    room_on at-field-4.field-end.ensures (both back-8)
 
 append-requires : tie.Need-append-requires
 unfolding resolution_line
@@ -28,8 +28,8 @@ append-requires c κs =
     let at-field2-4 = c.before.before.before.before in
     let at-field-9 = at-field2-4.before.before.before.before.before in
     let start = at-field-9.before.before.before.before in
-    room_on (appended_on at-field-9.field.ensures
-    at-field2-4.field2.ensures)
+    room_on (appended_on at-field-9.field-end.ensures
+    at-field2-4.field-state_end.ensures)
     start.requires
 
 returns : tie.Need-returns
@@ -38,11 +38,11 @@ returns c =
     let at-field2 = c.before.before.before.before.before.before.before in
     let at_field = at-field2.before.before.before.before.before in
     appended_on
-    (appended_on at_field.field.ensures
-    at-field2.field2.ensures) c.before.before.append.ensures
+    (appended_on at_field.field-end.ensures
+    at-field2.field-state_end.ensures) c.before.before.append.ensures
 
-pub resolution-spec : {M : Type 1} → statement M
-resolution-spec =
+pub resolution_spec : {M : Type 1} → statement M
+resolution_spec =
     tie.close
     (tie.spec
     (λ c. search rules)

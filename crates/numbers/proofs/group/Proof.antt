@@ -8,26 +8,26 @@ use borrow.Author.Rules.{rules}
 use Rattle.numbers.proofs.group.Statement.{statement}
 use Rattle.numbers.proofs.group.Tie as tie
 
-returns : tie.Need-returns
+returns : tie.Need-returns-then-refusal-gt255
 returns c = ap group_number (nobody_high c.before.args.refusal (omega arith))
 
-enum_told : tie.Need-enum-told
+enum_told : tie.Need-enum_told-1
 enum_told c = search rules
 
-returns-2 : tie.Need-returns-2
-returns-2 c = ap group_number (sym c.enum_told.given.1 ∙ c.before.before.Group-of.ensures)
+returns-2 : tie.Need-returns-in-Author
+returns-2 c = ap group_number (sym c.enum_told-1.given.1 ∙ c.before.before.group_of-group.ensures)
 
-returns-3 : tie.Need-returns-3
-returns-3 c = ap group_number (sym c.enum-told2.given.1 ∙ c.before.before.Group-of.ensures)
+returns-3 : tie.Need-returns-in-Caller
+returns-3 c = ap group_number (sym c.enum_told-in-Caller-1.given.1 ∙ c.before.before.group_of-group.ensures)
 
-returns-4 : tie.Need-returns-4
-returns-4 c = ap group_number (sym c.enum-told3.given.1 ∙ c.before.before.Group-of.ensures)
+returns-4 : tie.Need-returns-in-Logger
+returns-4 c = ap group_number (sym c.enum_told-in-Logger-1.given.1 ∙ c.before.before.group_of-group.ensures)
 
-returns-5 : tie.Need-returns-5
-returns-5 c = ap group_number (sym c.enum-told4.given.1 ∙ c.before.before.Group-of.ensures)
+returns-5 : tie.Need-returns-in-Nobody
+returns-5 c = ap group_number (sym c.enum_told-in-Nobody-1.given.1 ∙ c.before.before.group_of-group.ensures)
 
-pub group-spec : {M : Type 1} → statement M
-group-spec =
+pub group_spec : {M : Type 1} → statement M
+group_spec =
     tie.close
     (tie.spec
     returns

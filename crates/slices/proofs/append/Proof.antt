@@ -17,11 +17,11 @@ returns c =
       room = start.requires;
       end = refl;
       is = part_pasted a.at (length a.out.now - a.at) a.out.now a.bytes.now _ (omega arith)
-          c.before.before.copy-8.ensures;
+          c.before.before.copy_8.ensures;
     }
 
-pub append-spec : {M : Type 1} → statement M
-append-spec =
+pub append_spec : {M : Type 1} → statement M
+append_spec =
     tie.close
     (tie.spec
     (λ c. search rules)
