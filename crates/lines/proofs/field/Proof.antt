@@ -9,19 +9,23 @@ use Rattle.lines.proofs.field.Tie as tie
 
 append-requires : tie.Need-append-end-requires
 unfolding field
-append-requires c κs = let s = c.before.before.before in room_left s.args.word.now (decimal s.args.x) s.requires
+append-requires c κs = let s = c in room_left s.args.word.now (decimal s.args.x) s.requires
 
 number-requires : tie.Need-number-requires
 unfolding field
 number-requires c κs =
-    let start = c.before.before.before.before.before.before.before in
-    room_on c.before.before.before.append-end.ensures start.requires
+    let start = c in
+    room_on c.append-end.ensures start.requires
 
 returns : tie.Need-returns
 unfolding field
 returns c =
-    let at-append = c.before.before.before.before.before.before in
-    appended_on at-append.append-end.ensures c.before.before.number.ensures
+    let at-append = c in
+    appended_on at-append.append-end.ensures c.number.ensures
 
 pub field_spec : {M : Type 1} → statement M
-field_spec = tie.close (tie.spec append-requires number-requires (λ c. search rules) returns)
+field_spec = tie.close (tie.spec
+    append-requires
+    number-requires
+    (λ c. search rules)
+    returns)

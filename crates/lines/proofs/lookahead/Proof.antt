@@ -8,28 +8,26 @@ use Rattle.lines.proofs.lookahead.Tie as tie
 
 field-requires : tie.Need-field-end-requires
 unfolding lookahead_line
-field-requires c κs = let s = c.before.before.before in room_left (field look_ahead s.args.k) line_feed s.requires
+field-requires c κs = let s = c in room_left (field look_ahead s.args.k) line_feed s.requires
 
 append-requires : tie.Need-append-requires
 unfolding lookahead_line
 append-requires c κs =
-    let at-field-4 = c.before.before.before.before in
-    let start = at-field-4.before.before.before.before in
+    let at-field-4 = c in
+    let start = at-field-4 in
     room_on at-field-4.field-end.ensures start.requires
 
 returns : tie.Need-returns
 unfolding lookahead_line
 returns c =
-    let at_field = c.before.before.before.before.before.before.before in
-    appended_on at_field.field-end.ensures c.before.before.append.ensures
+    let at_field = c in
+    appended_on at_field.field-end.ensures c.append.ensures
 
 pub lookahead_spec : {M : Type 1} → statement M
 lookahead_spec =
     tie.close
     (tie.spec
-    (λ c. search rules)
     field-requires
-    (λ c. search rules)
     append-requires
     (λ c. search rules)
     returns)

@@ -18,23 +18,23 @@ decreases-loop out₀ at set end₀ s₀ out end s = 64 - s
 
 loop-holds : tie.Need-loop-s-init invariant-loop decreases-loop
 unfolding each
-loop-holds c = let s = c.before in (omega arith, appended_none s.args.at (omega (arith, s.requires.fits)))
+loop-holds c = let s = c in (omega arith, appended_none s.args.at (omega (arith, s.requires.fits)))
 
 member-requires : tie.Need-member-end-requires invariant-loop decreases-loop
 member-requires c κs =
-    let i = c.before.before.loop-s in
-    each_room _ _ i.invariant.1 64 c.before.before.before.before.requires (omega arith)
+    let i = c.loop-s in
+    each_room _ _ i.invariant.1 64 c.requires (omega arith)
 
 loop-again : tie.Need-loop-s-preserved invariant-loop decreases-loop
 loop-again c =
-    let at-loop = c.before.before.before.before.before in
-    (omega arith, each_next _ _ at-loop.loop-s.invariant.1 c.before.before.member-end.ensures)
+    let at-loop = c in
+    (omega arith, each_next _ _ at-loop.loop-s.invariant.1 c.member-end.ensures)
 
 same_length : tie.Need-shape_of-out invariant-loop decreases-loop
-same_length c = appended_long c.before.loop-s.invariant.1
+same_length c = appended_long c.loop-s.invariant.1
 
 returns : tie.Need-returns invariant-loop decreases-loop
-returns c = let i = c.before.loop-s in let e : i.s ≡ 64 = omega arith in rw e at i.invariant.1
+returns c = let i = c.loop-s in let e : i.s ≡ 64 = omega arith in rw e at i.invariant.1
 
 pub members_spec : {M : Type 1} → statement M
 members_spec =

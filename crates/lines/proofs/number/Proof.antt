@@ -12,21 +12,21 @@ use Rattle.lines.proofs.number.Statement.{statement}
 use Rattle.lines.proofs.number.Tie as tie
 
 right-requires : tie.Need-right-first-requires
-right-requires c κs = omega (arith, decimal_length 19 c.before.before.args.x (omega arith))
+right-requires c κs = omega (arith, decimal_length 19 c.args.x (omega arith))
 
 -- what is lent on is the number
-shown : (c : tie.After-right-first) → take (20 - c.right-first.result) (drop c.right-first.result c.right-first.new.0) ≡ decimal c.before.before.before.args.x
+shown : (c : tie.After-right-first) → take (20 - c.right-first.result) (drop c.right-first.result c.right-first.new.columns) ≡ decimal c.args.x
 shown c = right_shown c.right-first.ensures (20 - c.right-first.result) (omega arith)
 
 append-requires : tie.Need-append-requires
 append-requires c κs =
-    let r = c.before.before.before.before in
-    rw (shown r) r.before.before.before.requires
+    let r = c in
+    rw (shown r.before.before.before) r.requires
 
 returns : tie.Need-returns
 returns c =
-    let r = c.before.before.before.before.before.before.before in
-    rw (shown r) at c.before.before.append.ensures
+    let r = c in
+    rw (shown r.before.before.before.before.before.before) at c.append.ensures
 
 pub number_spec : {M : Type 1} → statement M
 number_spec =

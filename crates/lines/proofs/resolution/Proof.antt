@@ -13,21 +13,21 @@ unfolding resolution_line
 both s = room_left (field at_word s.args.position ++ field stake s.args.state) line_feed s.requires
 
 field-requires : tie.Need-field-end-requires
-field-requires c κs = let s = c.before.before.before in
-    room_left (field at_word s.args.position) (field stake s.args.state) (both s)
+field-requires c κs = let s = c in
+    room_left (field at_word s.args.position) (field stake s.args.state) (both s.before.before.before.before)
 
 field-requires-2 : tie.Need-field-state_end-requires
 field-requires-2 c κs =
-    let at-field-4 = c.before.before.before.before in
-    let back-8 = at-field-4.before.before.before.before in
-    room_on at-field-4.field-end.ensures (both back-8)
+    let at-field-4 = c in
+    let back-8 = at-field-4 in
+    room_on at-field-4.field-end.ensures (both back-8.before.before.before.before.before.before.before.before.before.before)
 
 append-requires : tie.Need-append-requires
 unfolding resolution_line
 append-requires c κs =
-    let at-field2-4 = c.before.before.before.before in
-    let at-field-9 = at-field2-4.before.before.before.before.before in
-    let start = at-field-9.before.before.before.before in
+    let at-field2-4 = c in
+    let at-field-9 = at-field2-4 in
+    let start = at-field-9 in
     room_on (appended_on at-field-9.field-end.ensures
     at-field2-4.field-state_end.ensures)
     start.requires
@@ -35,21 +35,18 @@ append-requires c κs =
 returns : tie.Need-returns
 unfolding resolution_line
 returns c =
-    let at-field2 = c.before.before.before.before.before.before.before in
-    let at_field = at-field2.before.before.before.before.before in
+    let at-field2 = c in
+    let at_field = at-field2 in
     appended_on
     (appended_on at_field.field-end.ensures
-    at-field2.field-state_end.ensures) c.before.before.append.ensures
+    at-field2.field-state_end.ensures) c.append.ensures
 
 pub resolution_spec : {M : Type 1} → statement M
 resolution_spec =
     tie.close
     (tie.spec
-    (λ c. search rules)
     field-requires
-    (λ c. search rules)
     field-requires-2
-    (λ c. search rules)
     append-requires
     (λ c. search rules)
     returns)

@@ -9,22 +9,22 @@ use Rattle.numbers.proofs.group.Statement.{statement}
 use Rattle.numbers.proofs.group.Tie as tie
 
 returns : tie.Need-returns-then-refusal-gt255
-returns c = ap group_number (nobody_high c.before.args.refusal (omega arith))
+returns c = ap group_number (nobody_high c.args.refusal (omega arith))
 
 enum_told : tie.Need-enum_told-1
 enum_told c = search rules
 
 returns-2 : tie.Need-returns-in-Author
-returns-2 c = ap group_number (sym c.enum_told-1.given.1 ∙ c.before.before.group_of-group.ensures)
+returns-2 c = ap group_number (sym c.in-Author.is ∙ c.group_of-group.ensures)
 
 returns-3 : tie.Need-returns-in-Caller
-returns-3 c = ap group_number (sym c.enum_told-in-Caller-1.given.1 ∙ c.before.before.group_of-group.ensures)
+returns-3 c = ap group_number (sym c.in-Caller.is ∙ c.group_of-group.ensures)
 
 returns-4 : tie.Need-returns-in-Logger
-returns-4 c = ap group_number (sym c.enum_told-in-Logger-1.given.1 ∙ c.before.before.group_of-group.ensures)
+returns-4 c = ap group_number (sym c.in-Logger.is ∙ c.group_of-group.ensures)
 
 returns-5 : tie.Need-returns-in-Nobody
-returns-5 c = ap group_number (sym c.enum_told-in-Nobody-1.given.1 ∙ c.before.before.group_of-group.ensures)
+returns-5 c = ap group_number (sym c.in-Nobody.is ∙ c.group_of-group.ensures)
 
 pub group_spec : {M : Type 1} → statement M
 group_spec =
