@@ -1,6 +1,8 @@
 // Plan bytes (document 01; edition 2: document 02, W-207): refusals 1 to 7 and 16 are judged while what they mean for a party is loaded
 // as successor sets. Nobody above looks at bytes: `load` gives the semiautomaton that a well-formed plan means for the party, `read` its
 // counts alone; for those who need the lists themselves, `header_of`, `starts_of` and `line_of` give them.
+#![tactic(auto)]
+
 ghost use Rattle.std.specs.Prelude.{◌≡◌, false, cond, not, ◌&&◌, ◌+◌, ◌≤◌, ◌<◌, max, eqb, length};
 ghost use Rattle.refusals.specs.Checks.{first_of};
 ghost use Rattle.plan.specs.Plan.{count_off, is_start, line_off, party_off};
@@ -26,7 +28,7 @@ const WIDTH_WITH_PARTY: u8 = 4;
 const WIDTH: u8 = 3;
 
 // The eight numbers at the front of a plan.
-#[derive(Drop)]
+#[derive(Clone, Copy)]
 pub struct Header {
     pub edition: u16,
     pub n: u16,
@@ -39,7 +41,7 @@ pub struct Header {
 }
 
 // A line: from, letter (code), to; its party, 0 in edition 1.
-#[derive(Drop)]
+#[derive(Clone, Copy)]
 pub struct Line {
     pub from: u8,
     pub letter: u8,

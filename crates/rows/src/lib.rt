@@ -1,5 +1,7 @@
 // Rows of pairs of states: bit t of row s is the pair s and t. Pairs are put in (`pair_up`) and taken out (`without`), and two states are
 // searched for (`common`). A table of successor sets is turned round (`turn`) by the same joining of sets at places.
+#![tactic(auto)]
+
 ghost use Rattle.std.specs.Prelude.{true, ◌≡◌, ℕ, ◌≤◌, ◌<◌, length};
 ghost use Rattle.bitset.specs.Numbers.{has};
 ghost use Rattle.semiautomata.specs.Sizes.{max_sets};

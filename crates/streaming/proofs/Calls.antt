@@ -19,6 +19,7 @@ Among number [] = ⊥
 Among number (c ∷ cs) = (number ≡ c.number) ⊎ Among number cs
 
 pub among_numbered : (b r : ℕ) (cs : List Check) → Numbered b cs → Among r cs → (1 ≤ r) × (r ≤ b)
+among_numbered b r [] n a = elim a [ ]
 among_numbered b r (c ∷ cs) n (inl e) = let s = split b c cs n in (omega (arith, s.low), omega (arith, s.high))
 among_numbered b r (c ∷ cs) n (inr a) = among_numbered b r cs (split b c cs n).rest a
 
@@ -48,6 +49,7 @@ lacks x [] = true
 lacks x (c ∷ cs) = not (eqb x c.number) && lacks x cs
 
 lacks_among : (x : ℕ) (cs : List Check) → lacks x cs ≡ true → ¬ Among x cs
+lacks_among x [] l a = elim a [ ]
 lacks_among x (c ∷ cs) l (inl e) = eqb-false x c.number (not-true _ (and_out _ _ l).0) e
 lacks_among x (c ∷ cs) l (inr a) = lacks_among x cs (and_out (not (eqb x c.number)) _ l).1 a
 

@@ -1,6 +1,8 @@
 // Walks over successor sets, wherever these stand: in a table (lent as `&table[SETS_FROM..]`) or just loaded from a plan, and whatever the
 // initial states are. The letters of a word are tested (`letter_off`); one letter forth (`gather`) and back (`back`), a word (`reach_by`,
 // `survivors_with`, `survivors_of`), every position of a word (`trace`), any word from the initial states (`reachable`).
+#![tactic(auto)]
+
 ghost use Rattle.std.specs.Prelude.{◌≡◌, ◌&&◌, [], ◌∷◌, ◌++◌, ℕ, suc, ◌^◌, ◌≤◌, ◌<◌, length, get_or, take};
 ghost use Rattle.bitset.specs.Sets.{any, size};
 ghost use Rattle.bitset.specs.Numbers.{has, set_of};

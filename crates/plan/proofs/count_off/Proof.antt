@@ -9,5 +9,9 @@ use Rattle.plan.proofs.count_off.Tie as tie
 returns : tie.Need-returns
 returns c = simp (not_and, not_leb, or_assoc)
 
-pub count-off-spec : {M : Type 1} → statement M
-count-off-spec = tie.close (tie.spec (λ c. search rules) (λ c. search rules) (λ c. search rules) returns)
+pub count_off_spec : {M : Type 1} → statement M
+count_off_spec = tie.close (tie.spec
+    (λ c. search rules)
+    (λ c. search rules)
+    (λ c. search rules)
+    returns)

@@ -11,40 +11,40 @@ use Rattle.plan.proofs.Entering.{starts_to, starts_none, starts_next}
 use Rattle.plan.proofs.enter_starts.Statement.{statement}
 use Rattle.plan.proofs.enter_starts.Tie as tie
 
-abbrev invariant-loop : tie.invariant-loop
+abbrev invariant-loop : tie.invariant-loop-i
 invariant-loop plan h n p all set₀ off₀ i₀ set off i = (i ≤ p) × StartsEntered (starts_to i (parsed_by h plan)) (record { set = set; off = off })
 
-abbrev decreases-loop : tie.decreases-loop
+abbrev decreases-loop : tie.decreases-loop-i
 decreases-loop plan h n p all set₀ off₀ i₀ set off i = p - i
 
-abbrev start : tie.At-loop invariant-loop decreases-loop → tie.Start invariant-loop decreases-loop
+abbrev start : tie.At-loop-i invariant-loop decreases-loop → tie.Start invariant-loop decreases-loop
 start c = c.before.before.before.before.before
 
 abbrev plan_of : tie.Start invariant-loop decreases-loop → Plan
 plan_of s = parsed_by s.args.h s.args.plan.now
 
-loop-holds : tie.Need-loop-init invariant-loop decreases-loop
+loop-holds : tie.Need-loop-i-init invariant-loop decreases-loop
 loop-holds c =
-    let back-4 = c.before.before.before.before in
-    (search rules, starts_none (plan_of back-4))
+    let back-4 = c in
+    (search rules, starts_none (plan_of back-4.before.before.before.before))
 
-cast-s-2 : tie.Need-overflow-cast-s-2 invariant-loop decreases-loop
-cast-s-2 c = let l = c.before.before.before in omega (arith, c.shared-slice-known2.given ((start l).args.h.starts + l.loop.i))
+cast-s-2 : tie.Need-overflow_cast-s-in-loop-i invariant-loop decreases-loop
+cast-s-2 c = let l = c in omega (arith, c.shared_slice_known-in-loop-i-1.given ((start l.before.before.before).args.h.starts + l.loop-i.i))
 
-loop-again : tie.Need-loop-preserved invariant-loop decreases-loop
+loop-again : tie.Need-loop-i-preserved invariant-loop decreases-loop
 loop-again c =
-    let l = c.before.before.before.before.before in
-    let a = start l in (
+    let l = c in
+    let a = start l.before.before.before.before.before in (
       search rules,
-      starts_next (plan_of a) a.pre.states l.loop.invariant.1 refl c.singleton.ensures l.before.mask.ensures
-          c.before.contains.ensures,
+      starts_next (plan_of a) a.requires.states l.loop-i.invariant.1 refl c.singleton.ensures l.mask-all.ensures
+          c.contains.ensures,
     )
 
 returns : tie.Need-returns invariant-loop decreases-loop
-returns c = let e : c.before.loop.i ≡ (start c.before).args.h.p = omega arith in rw e at c.before.loop.invariant.1
+returns c = let e : c.loop-i.i ≡ (start c.before).args.h.p = omega arith in rw e at c.loop-i.invariant.1
 
-pub enter-starts-spec : {M : Type 1} → statement M
-enter-starts-spec =
+pub enter_starts_spec : {M : Type 1} → statement M
+enter_starts_spec =
     tie.close
     (tie.spec
     invariant-loop

@@ -7,8 +7,8 @@ use Rattle.plan.proofs.header_of.Tie as tie
 returns : tie.Need-returns
 returns c = cc
 
-pub header-of-spec : {M : Type 1} → statement M
-header-of-spec =
+pub header_of_spec : {M : Type 1} → statement M
+header_of_spec =
     tie.close
     (tie.spec
     (λ c κs. search rules)

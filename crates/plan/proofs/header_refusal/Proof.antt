@@ -10,13 +10,13 @@ use Rattle.plan.proofs.header_refusal.Tie as tie
 
 returns : tie.Need-returns
 returns c =
-    let n = c.before.before in
-    let s = n.before.before.before.before in
-    c.first-of-header.ensures
-    ∙ rw (n.count-off.ensures, c.before.is-misplaced.ensures, le-ltb s.args.size 16 s.requires, not_or (eqb s.args.h.edition 1))
+    let n = c in
+    let s = n in
+    c.first_of_header.ensures
+    ∙ rw (n.count_off.ensures, c.is_misplaced.ensures, le-ltb s.args.size 16 s.requires, not_or (eqb s.args.h.edition 1))
 
-pub header-refusal-spec : {M : Type 1} → statement M
-header-refusal-spec =
+pub header_refusal_spec : {M : Type 1} → statement M
+header_refusal_spec =
     tie.close
     (tie.spec
     (λ c. search rules)

@@ -10,14 +10,14 @@ use Rattle.plan.proofs.is_misplaced.Statement.{statement}
 use Rattle.plan.proofs.is_misplaced.Tie as tie
 
 -- the bytes of the lines are few
-times : (c : tie.After-line-width) → let h = c.before.before.before.before.before.args.h in c.line-width.result * h.e ≤ 4 * h.e
-times c = let h = c.before.before.before.before.before.args.h in width_times h.edition c.line-width.ensures h.e
+times : (c : tie.After-line_width) → let h = c.args.h in c.line_width.result * h.e ≤ 4 * h.e
+times c = let h = c.args.h in width_times h.edition c.line_width.ensures h.e
 
 returns : tie.Need-returns
-returns c = rw (← c.before.before.line-width.ensures) (simp (not_and, not_leb, or_assoc, and_assoc))
+returns c = rw (← c.line_width.ensures) (simp (not_and, not_leb, or_assoc, and_assoc))
 
-pub is-misplaced-spec : {M : Type 1} → statement M
-is-misplaced-spec =
+pub is_misplaced_spec : {M : Type 1} → statement M
+is_misplaced_spec =
     tie.close
     (tie.spec
     (λ c. search rules)

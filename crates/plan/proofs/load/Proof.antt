@@ -17,62 +17,62 @@ use Rattle.plan.proofs.Loading.{elsewhere_sound, loads_header, loads_refused, lo
 use Rattle.plan.proofs.load.Statement.{statement}
 use Rattle.plan.proofs.load.Tie as tie
 
-returns : tie.Need-returns
-returns c = (refused_short _ _ c.if1.true, λ e. omega arith)
+returns : tie.Need-returns-then-plan-lt16
+returns c = (refused_short _ _ c.if-plan-lt16.true, λ e. omega arith)
 
-returns-2 : tie.Need-returns-2
-returns-2 c = loads_header _ _ c.before.before.header_of.ensures c.before.header-refusal.ensures c.if2.true
+returns-2 : tie.Need-returns-then-front-ne0
+returns-2 c = loads_header _ _ c.header_of-h.ensures c.header_refusal-front.ensures c.if-front-ne0.true
 
-abbrev start : tie.Else2 → tie.Start
+abbrev start : tie.Else-front-ne0 → tie.Start
 start c = c.before.before.before.before.before
 
-sound : (c : tie.Else2) → Sound (start c).args.plan.now c.before.before.header_of.result
-sound c = (header_clear _ _ (sym c.before.header-refusal.ensures ∙ c.if2.false)).1
+sound : (c : tie.Else-front-ne0) → Sound (start c).args.plan.now c.header_of-h.result
+sound c = (header_clear _ _ (sym c.header_refusal-front.ensures ∙ c.if-front-ne0.false)).1
 
-enter-starts-requires : tie.Need-enter-starts-requires
+enter-starts-requires : tie.Need-enter_starts-starts-requires
 enter-starts-requires c κs = sound c
 
-enter-lines-requires : tie.Need-enter-lines-requires
-enter-lines-requires c κs = let e = c.before.before in (sound e, (start e).requires)
+enter-lines-requires : tie.Need-enter_lines-lines-requires
+enter-lines-requires c κs = let e = c in (sound e.before.before, (start e.before.before).requires)
 
-twice-elsewhere-requires : tie.Need-twice-elsewhere-requires
+twice-elsewhere-requires : tie.Need-twice_elsewhere-elsewhere-requires
 twice-elsewhere-requires c κs =
-    let l = c.before in
-    let e = l.before.before.before in
-    let h = e.before.before in
-    let (s, fits) = elsewhere_sound _ (start e).args.party h.header_of.ensures (sound e)
-    (sym l.enter-lines.ensures.off_is ∙ c.if3.false) in
-    (omega (arith, h.before.if1.false), s, fits)
+    let l = c in
+    let e = l in
+    let h = e in
+    let (s, fits) = elsewhere_sound _ (start e.before.before.before.before).args.party h.header_of-h.ensures (sound e.before.before.before.before)
+    (sym l.enter_lines-lines.ensures.off_is ∙ c.if-lines.false) in
+    (omega (arith, h.if-plan-lt16.false), s, fits)
 
 -- whether a line of another party stands twice is looked for where 6 does not apply
-others : (c : tie.Joined3) → let l = c.before in let s = start l.before.before.before in
-    line_off (parsed_by l.before.before.before.before.before.header_of.result s.args.plan.now) ≡ false
-    → c.if3.elsewhere
-    ≡ any (l.enter-lines.result.highest + 1) (λ q. not (eqb q s.args.party) && twice_of (parsed s.args.plan.now) q)
+others : (c : tie.Joined-lines) → let l = c in let s = start l.before.before.before.before in
+    line_off (parsed_by l.header_of-h.result s.args.plan.now) ≡ false
+    → c.if-lines.elsewhere
+    ≡ any (l.enter_lines-lines.result.highest + 1) (λ q. not (eqb q s.args.party) && twice_of (parsed s.args.plan.now) q)
 others c fits =
-    ⊎_elim (λ w. absurd (true≢false (sym w.0.taken ∙ c.before.enter-lines.ensures.off_is ∙ fits)))
-    (λ w. w.2 ∙ w.1.ensures) c.if3.branch
+    ⊎_elim (λ w. absurd (true≢false (sym w.0.true ∙ c.enter_lines-lines.ensures.off_is ∙ fits)))
+    (λ w. w.2 ∙ w.1.ensures) c.if-lines.branch-raw
 
 -- what is found is the first of the checks on the parts
-returns-3 : tie.Need-returns-3
+returns-3 : tie.Need-returns-then-refused-ne0
 returns-3 c =
-    let p = c.before.before in
-    let o = p.before.before.before in
-    let l = o.before in
-    let e = l.before.before.before in
-    loads_refused _ _ e.before.before.header_of.ensures e.before.header-refusal.ensures e.if2.false
-    l.before.before.enter-starts.ensures l.enter-lines.ensures (others o) p.party-off.ensures
-    c.before.first-of-parts.ensures c.if4.true
+    let p = c in
+    let o = p in
+    let l = o in
+    let e = l in
+    loads_refused _ _ e.header_of-h.ensures e.header_refusal-front.ensures e.if-front-ne0.false
+    l.enter_starts-starts.ensures l.enter_lines-lines.ensures (others o.before.before.before.before.before) p.party_off.ensures
+    c.first_of_parts-refused.ensures c.if-refused-ne0.true
 
-returns-4 : tie.Need-returns-4
+returns-4 : tie.Need-returns
 returns-4 c =
-    let p = c.before.before in
-    let o = p.before.before.before in
-    let l = o.before in
-    let e = l.before.before.before in
-    loads_plan _ _ e.before.before.header_of.ensures e.before.header-refusal.ensures e.if2.false
-    l.before.before.enter-starts.ensures l.enter-lines.ensures (others o) p.party-off.ensures
-    c.before.first-of-parts.ensures c.if4.false
+    let p = c in
+    let o = p in
+    let l = o in
+    let e = l in
+    loads_plan _ _ e.header_of-h.ensures e.header_refusal-front.ensures e.if-front-ne0.false
+    l.enter_starts-starts.ensures l.enter_lines-lines.ensures (others o.before.before.before.before.before) p.party_off.ensures
+    c.first_of_parts-refused.ensures c.if-refused-ne0.false
 
 pub load_spec : {M : Type 1} → statement M
 load_spec =

@@ -8,16 +8,21 @@ use Rattle.plan.proofs.Refusals.{asked_zero}
 use Rattle.plan.proofs.read.Statement.{statement}
 use Rattle.plan.proofs.read.Tie as tie
 
-load-requires : tie.Need-load-requires
+load-requires : tie.Need-load-loaded-requires
 load-requires c κs = blank _
 
-returns : tie.Need-returns
-returns c = loaded_refused _ (rw c.before.loaded.given.1 at c.before.before.before.load.ensures)
+returns : tie.Need-returns-in-Refused
+returns c = loaded_refused _ (rw c.in-Refused.is at c.load-loaded.ensures)
 
-returns-2 : tie.Need-returns-2
+returns-2 : tie.Need-returns-in-Plan
 returns-2 c =
-    let (w, _, e, _) = rw c.before.loaded2.given.1 at c.before.before.before.load.ensures in
+    let (w, _, e, _) = rw c.in-Plan.is at c.load-loaded.ensures in
     loaded_counts _ (sym (asked_zero _) ∙ w) e
 
 pub read_spec : {M : Type 1} → statement M
-read_spec = tie.close (tie.spec load-requires (λ c. search rules) (λ c. search rules) returns returns-2)
+read_spec = tie.close (tie.spec
+    load-requires
+    (λ c. search rules)
+    (λ c. search rules)
+    returns
+    returns-2)

@@ -14,48 +14,48 @@ use Rattle.plan.proofs.Parting.{elsewhere_next, elsewhere_same}
 use Rattle.plan.proofs.twice_elsewhere.Statement.{statement}
 use Rattle.plan.proofs.twice_elsewhere.Tie as tie
 
-abbrev invariant-loop : tie.invariant-loop
+abbrev invariant-loop : tie.invariant-loop-other
 invariant-loop plan party highest h twice₀ other₀ end twice other =
     (other ≤ end) × (twice ≡ any other (λ q. not (eqb q party) && twice_of (parsed plan) q))
 
-abbrev decreases-loop : tie.decreases-loop
+abbrev decreases-loop : tie.decreases-loop-other
 decreases-loop plan party highest h twice₀ other₀ end twice other = end - other
 
-abbrev start : tie.At-loop invariant-loop decreases-loop → tie.Start invariant-loop decreases-loop
+abbrev start : tie.At-loop-other invariant-loop decreases-loop → tie.Start invariant-loop decreases-loop
 start c = c.before.before.before
 
-twice-of-requires : tie.Need-twice-of-requires invariant-loop decreases-loop
+twice-of-requires : tie.Need-twice_of-twice-requires invariant-loop decreases-loop
 twice-of-requires c κs =
-    let l = c.before.before in
-    let (_, sound, fits) = (start l).requires in
-    rw l.before.header_of.ensures (sound, fits)
+    let l = c in
+    let (_, sound, fits) = (start l.before.before).requires in
+    rw l.header_of-h.ensures (sound, fits)
 
-loop-holds : tie.Need-loop-init invariant-loop decreases-loop
+loop-holds : tie.Need-loop-other-init invariant-loop decreases-loop
 unfolding any
 loop-holds c = (search rules, refl)
 
-loop-again : tie.Need-loop-preserved invariant-loop decreases-loop
+loop-again : tie.Need-loop-other-preserved invariant-loop decreases-loop
 loop-again c =
-    let l = c.before.before in
-    let a = (start l).args in
+    let l = c in
+    let a = (start l.before.before).args in
     let found = twice_of (parsed a.plan.now) in (
       search rules,
       ⊎_elim
-          (λ w. w.2 ∙ elsewhere_next a.party found l.loop.invariant.1 w.0.taken (rw l.before.header_of.ensures at w.1.ensures))
-          (λ w. w.1 ∙ elsewhere_same a.party found l.loop.invariant.1 w.0.left)
-          c.if1.branch,
+          (λ w. w.2 ∙ elsewhere_next a.party found l.loop-other.invariant.1 w.0.true (rw l.header_of-h.ensures at w.1.ensures))
+          (λ w. w.1 ∙ elsewhere_same a.party found l.loop-other.invariant.1 w.0.left)
+          c.if-other-party.branch-raw,
     )
 
 returns : tie.Need-returns invariant-loop decreases-loop
-returns c = let e : c.before.loop.other ≡ (start c.before).args.highest + 1 = omega arith in rw e at c.before.loop.invariant.1
+returns c = let e : c.loop-other.other ≡ (start c.before).args.highest + 1 = omega arith in rw e at c.loop-other.invariant.1
 
-pub twice-elsewhere-spec : {M : Type 1} → statement M
-twice-elsewhere-spec =
+pub twice_elsewhere_spec : {M : Type 1} → statement M
+twice_elsewhere_spec =
     tie.close
     (tie.spec
     invariant-loop
     decreases-loop
-    (λ c κs. c.before.requires.0)
+    (λ c κs. c.requires.0)
     (λ c. search rules)
     loop-holds
     twice-of-requires

@@ -13,67 +13,67 @@ use Rattle.plan.proofs.Entering.{lines_to, Sought, sought_none, sought_all, soug
 use Rattle.plan.proofs.twice_of.Statement.{statement}
 use Rattle.plan.proofs.twice_of.Tie as tie
 
-abbrev invariant-loop : tie.invariant-loop
+abbrev invariant-loop : tie.invariant-loop-i
 invariant-loop plan h party m e sets₀ again₀ i₀ sets again i = (i ≤ e) × Sought (lines_to i (parsed_by h plan)) party sets again
 
-abbrev decreases-loop : tie.decreases-loop
+abbrev decreases-loop : tie.decreases-loop-i
 decreases-loop plan h party m e sets₀ again₀ i₀ sets again i = e - i
 
-abbrev start : tie.At-loop invariant-loop decreases-loop → tie.Start invariant-loop decreases-loop
+abbrev start : tie.At-loop-i invariant-loop decreases-loop → tie.Start invariant-loop decreases-loop
 start c = c.before.before.before.before
 
 abbrev plan_of : tie.Start invariant-loop decreases-loop → Plan
 plan_of s = parsed_by s.args.h s.args.plan.now
 
-abbrev read : tie.Else1 invariant-loop decreases-loop → tie.After-line-of invariant-loop decreases-loop
+abbrev read : tie.Else-line-party invariant-loop decreases-loop → tie.After-line_of-line invariant-loop decreases-loop
 read c = c.before.before
 
-abbrev line : tie.Else1 invariant-loop decreases-loop → Line
-line c = (read c).Line-of.result
+abbrev line : tie.Else-line-party invariant-loop decreases-loop → Line
+line c = (read c).line_of-line.result
 
-inside : (c : tie.Else1 invariant-loop decreases-loop) → let s = start (read c).before.before in
+inside : (c : tie.Else-line-party invariant-loop decreases-loop) → let s = start (read c).before.before in
     (place s.args.h.m (line c).from (line c).letter < 2048) × ((line c).to < 64)
 inside c =
     let r = read c in
-    let l = r.before.before in
-    let s = start l in
-    sought_place (plan_of s) s.args.party s.pre.0.states s.pre.0.letters s.pre.1 r.before.loop-test.taken
-    l.loop.inv.1 r.Line-of.ensures c.if1.false
+    let l = r in
+    let s = start l.before.before in
+    sought_place (plan_of s) s.args.party s.requires.0.states s.requires.0.letters s.requires.1 r.loop-i-test.true
+    l.loop-i.invariant.1 r.line_of-line.ensures c.if-line-party.false
 
-loop-holds : tie.Need-loop-init invariant-loop decreases-loop
-loop-holds c = let s = c.before.before.before in (search rules, sought_none (plan_of s) s.args.party (blank _))
+loop-holds : tie.Need-loop-i-init invariant-loop decreases-loop
+loop-holds c = let s = c in (search rules, sought_none (plan_of s.before.before.before) s.args.party (blank _))
 
-line-of-requires : tie.Need-line-of-requires invariant-loop decreases-loop
-line-of-requires c κs = ((start c.before).pre.0, c.loop-test.true)
+line-of-requires : tie.Need-line_of-line-requires invariant-loop decreases-loop
+line-of-requires c κs = ((start c.before).requires.0, c.loop-i-test.true)
 
-loop-again : tie.Need-loop-preserved invariant-loop decreases-loop
+loop-again : tie.Need-loop-i-preserved-then-line-party invariant-loop decreases-loop
 loop-again c =
-    let r = c.before.before in
-    let l = r.before.before in
-    let s = start l in (
-      omega (arith, r.before.loop-test.true),
-      sought_over (plan_of s) s.args.party s.pre.0.states s.pre.0.letters s.pre.1 r.before.loop-test.true
-          l.loop.invariant.1 r.Line-of.ensures c.if1.true,
+    let r = c in
+    let l = r in
+    let s = start l.before.before.before.before in (
+      omega (arith, r.loop-i-test.true),
+      sought_over (plan_of s) s.args.party s.requires.0.states s.requires.0.letters s.requires.1 r.loop-i-test.true
+          l.loop-i.invariant.1 r.line_of-line.ensures c.if-line-party.true,
     )
 
-loop-again-2 : tie.Need-loop-preserved-2 invariant-loop decreases-loop
+loop-again-2 : tie.Need-loop-i-preserved invariant-loop decreases-loop
 loop-again-2 c =
-    let e = c.before.before.before in
-    let r = read e in
-    let l = r.before.before in
-    let s = start l in (
-      omega (arith, r.before.loop-test.taken),
-      sought_next (plan_of s) s.args.party s.pre.0.states s.pre.0.letters s.pre.1 r.before.loop-test.taken
-          l.loop.inv.1 r.Line-of.ensures e.if1.false,
+    let e = c in
+    let r = read e.before.before.before in
+    let l = r in
+    let s = start l.before.before in (
+      omega (arith, r.loop-i-test.true),
+      sought_next (plan_of s) s.args.party s.requires.0.states s.requires.0.letters s.requires.1 r.loop-i-test.true
+          l.loop-i.invariant.1 r.line_of-line.ensures e.if-line-party.false,
     )
 
 returns : tie.Need-returns invariant-loop decreases-loop
 returns c =
-    let e : c.before.loop.i ≡ (start c.before).args.h.e = omega arith in
-    sought_all (rw e at c.before.loop.invariant.1)
+    let e : c.loop-i.i ≡ (start c.before).args.h.e = omega arith in
+    sought_all (rw e at c.loop-i.invariant.1)
 
-pub twice-of-spec : {M : Type 1} → statement M
-twice-of-spec =
+pub twice_of_spec : {M : Type 1} → statement M
+twice_of_spec =
     tie.close
     (tie.spec
     invariant-loop
@@ -83,8 +83,8 @@ twice-of-spec =
     loop-holds
     line-of-requires
     (λ c. search rules)
-    (λ c. let i = c.before.before.before in omega (arith, i.loop-test.true, i.before.before.struct-known2.given))
-    (λ c. omega (arith, c.before.before.before.loop-test.true))
+    (λ c. let i = c in omega (arith, i.loop-i-test.true, i.struct_known-2-1.given))
+    (λ c. omega (arith, c.loop-i-test.true))
     loop-again
     (λ c. search rules)
     (λ c. omega (arith, inside c.before))
@@ -96,7 +96,7 @@ twice-of-spec =
     (λ c. omega (arith, inside c.before.before.before))
     (λ c. omega (arith, inside c.before.before.before))
     (λ c. omega (arith, inside c.before.before.before))
-    (λ c. let i = (read c.before.before.before).before in omega (arith, i.loop-test.taken, i.before.before.struct-known2.given))
-    (λ c. omega (arith, (read c.before.before.before).before.loop-test.taken))
+    (λ c. let i = (read c.before.before.before).before in omega (arith, i.loop-i-test.true, i.struct_known-2-1.given))
+    (λ c. omega (arith, (read c.before.before.before).loop-i-test.true))
     loop-again-2
     returns)

@@ -13,24 +13,24 @@ use Rattle.rows.proofs.Joining.{joining_first, joining_next, joining_all}
 use Rattle.rows.proofs.join.Statement.{statement}
 use Rattle.rows.proofs.join.Tie as tie
 
-abbrev invariant-loop : tie.invariant-loop
+abbrev invariant-loop : tie.invariant-loop-rest
 invariant-loop rows₀ width at firsts seconds rest₀ rows rest = Left 64 firsts rest × JoinedAt width at (taken firsts rest) seconds rows₀ rows
 
-abbrev decreases-loop : tie.decreases-loop
+abbrev decreases-loop : tie.decreases-loop-rest
 decreases-loop rows₀ width at firsts seconds rest₀ rows rest = rest
 
-some : (c : tie.In-loop invariant-loop decreases-loop) → 0 < c.before.loop.rest
-some c = omega (arith, c.loop-test.true)
+some : (c : tie.In-loop-rest invariant-loop decreases-loop) → 0 < c.loop-rest.rest
+some c = omega (arith, c.loop-rest-test.true)
 
-within : (c : tie.In-loop invariant-loop decreases-loop) →
-    let a = c.before.before.args in
-    place a.width (count_trailing_zeros 64 c.before.loop.rest) a.at < length c.before.loop.rows
+within : (c : tie.In-loop-rest invariant-loop decreases-loop) →
+    let a = c.args in
+    place a.width (count_trailing_zeros 64 c.loop-rest.rest) a.at < length c.loop-rest.rows
 within c =
-    let i = c.before.loop.invariant in
-    rw i.1.long (c.before.before.requires.1 _ (least_in i.0 (some c)))
+    let i = c.loop-rest.invariant in
+    rw i.1.long (c.requires.1 _ (least_in i.0 (some c)))
 
-pub join-spec : {M : Type 1} → statement M
-join-spec =
+pub join_spec : {M : Type 1} → statement M
+join_spec =
     tie.close
     (tie.spec
     invariant-loop
@@ -46,8 +46,8 @@ join-spec =
     (λ c. some c.before)
     (λ c. strike_less _ (some c.before))
     (λ c.
-    let i = c.before.before.loop.invariant in
+    let i = c.loop-rest.invariant in
     let p = some c.before in
-    (left_next i.0 p, joining_next c.before.before.before.requires.0 i.0 p (within c.before) i.1))
-    (λ c. c.before.loop.invariant.1.long)
-    (λ c. joining_all _ c.loop-test.false c.before.loop.invariant.1))
+    (left_next i.0 p, joining_next c.requires.0 i.0 p (within c.before) i.1))
+    (λ c. c.loop-rest.invariant.1.long)
+    (λ c. joining_all _ c.loop-rest-test.false c.loop-rest.invariant.1))

@@ -9,38 +9,38 @@ use Rattle.rows.proofs.Removing.{without_first, without_next, union_first, union
 use Rattle.rows.proofs.without.Statement.{statement}
 use Rattle.rows.proofs.without.Tie as tie
 
-abbrev invariant-loop : tie.invariant-loop
+abbrev invariant-loop : tie.invariant-loop-s
 invariant-loop rows₀ n struck any₀ s₀ rows any s = (s ≤ n) × Without rows₀ struck rows s × Union rows any s
 
-abbrev decreases-loop : tie.decreases-loop
+abbrev decreases-loop : tie.decreases-loop-s
 decreases-loop rows₀ n struck any₀ s₀ rows any s = n - s
 
-small : (c : tie.In-loop invariant-loop decreases-loop) → c.before.loop.s < 64
-small c = omega (arith, c.before.before.requires.0)
+small : (c : tie.In-loop-s invariant-loop decreases-loop) → c.loop-s.s < 64
+small c = omega (arith, c.requires.0)
 
-room : (c : tie.In-loop invariant-loop decreases-loop) → c.before.loop.s < length c.before.loop.rows
-room c = rw (c.before.loop.invariant.1.long ∙ c.before.before.requires.1) (small c)
+room : (c : tie.In-loop-s invariant-loop decreases-loop) → c.loop-s.s < length c.loop-s.rows
+room c = rw (c.loop-s.invariant.1.long ∙ c.requires.1) (small c)
 
-pub without-spec : {M : Type 1} → statement M
-without-spec =
+pub without_spec : {M : Type 1} → statement M
+without_spec =
     tie.close
     (tie.spec
     invariant-loop
     decreases-loop
     (λ c. (omega arith, without_first, union_first))
     (λ c. omega (arith, small c))
-    (λ c. small c)
-    (λ c. omega (arith, small c.before))
     (λ c. small c.before)
     (λ c. omega (arith, small c.before.before))
-    (λ c. small c.before.before)
+    (λ c. small c.before.before.before)
+    (λ c. omega (arith, small c.before.before.before.before))
+    (λ c. small c.before.before.before.before)
     (λ c. omega arith)
     (λ c. omega arith)
     (λ c.
-    let k = c.before.before in
-    let (_, w, u) = k.before.loop.invariant in
-    (omega arith, without_next (room k) w, union_next (room k) _ u))
+    let k = c in
+    let (_, w, u) = k.loop-s.invariant in
+    (omega arith, without_next (room k.before.before.before.before) w, union_next (room k.before.before.before.before) _ u))
     (λ c.
-    let (_, w, u) = c.before.loop.invariant in
-    let e : c.before.loop.s ≡ c.before.before.args.n = omega arith in
+    let (_, w, u) = c.loop-s.invariant in
+    let e : c.loop-s.s ≡ c.args.n = omega arith in
     (rw e at w, rw e at u)))

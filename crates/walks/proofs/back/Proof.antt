@@ -16,67 +16,67 @@ use Rattle.walks.proofs.Steps.{place_in}
 use Rattle.walks.proofs.back.Statement.{statement}
 use Rattle.walks.proofs.back.Tie as tie
 
-abbrev invariant-loop : tie.invariant-loop
+abbrev invariant-loop : tie.invariant-loop-rest
 invariant-loop sets n m set letter target out₀ rest₀ out rest =
     Left n set rest × Picked set rest (λ s. any n (λ t. has target t && has (get_or sets (place m s letter) 0) t)) out
 
-abbrev decreases-loop : tie.decreases-loop
+abbrev decreases-loop : tie.decreases-loop-rest
 decreases-loop sets n m set letter target out₀ rest₀ out rest = rest
 
-module _ (c : tie.In-loop invariant-loop decreases-loop) where
-  some : 0 < c.before.loop.rest
-  some = omega (arith, c.loop-test.true)
+module _ (c : tie.In-loop-rest invariant-loop decreases-loop) where
+  some : 0 < c.loop-rest.rest
+  some = omega (arith, c.loop-rest-test.true)
 
-  small : count_trailing_zeros 64 c.before.loop.rest < c.before.before.args.n
-  small = least_below c.before.loop.invariant.0 some
+  small : count_trailing_zeros 64 c.loop-rest.rest < c.args.n
+  small = least_below c.loop-rest.invariant.0 some
 
-  room : place c.before.before.args.m (count_trailing_zeros 64 c.before.loop.rest) c.before.before.args.letter < length
-      c.before.before.args.sets.now
-  room = let p = c.before.before.requires in place_in p.0 p.2 _ small
+  room : place c.args.m (count_trailing_zeros 64 c.loop-rest.rest) c.args.letter < length
+      c.args.sets.now
+  room = let p = c.requires in place_in p.0 p.2 _ small
 
-loop-holds : tie.Need-loop-init invariant-loop decreases-loop
+loop-holds : tie.Need-loop-rest-init invariant-loop decreases-loop
 loop-holds c = (left_first _ _ c.requires.0.states c.requires.1, picked_first _ _)
 
-cast-s : tie.Need-overflow-cast-s invariant-loop decreases-loop
-cast-s c = omega (arith, small c, c.before.before.requires.0.states)
+cast-s : tie.Need-overflow_cast-s invariant-loop decreases-loop
+cast-s c = omega (arith, small c, c.requires.0.states)
 
-mul-if1 : tie.Need-overflow-mul-if1 invariant-loop decreases-loop
+mul-if1 : tie.Need-overflow_mul-s invariant-loop decreases-loop
 mul-if1 c = omega (arith, room c)
 
-add-if1 : tie.Need-overflow-add-if1 invariant-loop decreases-loop
+add-if1 : tie.Need-overflow_add-s invariant-loop decreases-loop
 add-if1 c = omega (arith, room c)
 
-mul-if1-2 : tie.Need-overflow-mul-if1-2 invariant-loop decreases-loop
+mul-if1-2 : tie.Need-offset_bounds-sets-s invariant-loop decreases-loop
 mul-if1-2 c = omega (arith, room c)
 
-shared-slice-read-if1 : tie.Need-shared-slice-read-if1 invariant-loop decreases-loop
+shared-slice-read-if1 : tie.Need-bounds-sets-s invariant-loop decreases-loop
 shared-slice-read-if1 c = omega (arith, room c.before)
 
-shl-out : tie.Need-overflow-shl-out invariant-loop decreases-loop
-shl-out c = let t = c.before.before in omega (arith, small t, t.before.before.requires.0.states)
+shl-out : tie.Need-overflow_shl-out invariant-loop decreases-loop
+shl-out c = let t = c in omega (arith, small t.before.before, t.requires.0.states)
 
-sub-rest : tie.Need-overflow-sub-rest invariant-loop decreases-loop
+sub-rest : tie.Need-overflow_sub-rest invariant-loop decreases-loop
 sub-rest c = some c.before.before
 
-loop-less : tie.Need-loop-smaller invariant-loop decreases-loop
+loop-less : tie.Need-loop-rest-smaller invariant-loop decreases-loop
 loop-less c = strike_less _ (some c.before.before)
 
-loop-again : tie.Need-loop-preserved invariant-loop decreases-loop
+loop-again : tie.Need-loop-rest-preserved invariant-loop decreases-loop
 loop-again c =
-    let t = c.before.before in
-    let i = t.before.loop.invariant in
-    let p = some t in (
+    let t = c in
+    let i = t.loop-rest.invariant in
+    let p = some t.before.before in (
       left_next i.0 p,
-      ⊎_elim (λ w. rw w.1 (picked_with i.0 p (meets_some _ _ _ t.before.before.requires.3 w.0.taken) i.1))
-          (λ w. rw w.1 (picked_without i.0 p (meets_none _ _ _ w.0.left) i.1))
-          c.if1.branch,
+      ⊎_elim (λ w. rw w.out-is (picked_with i.0 p (meets_some _ _ _ t.requires.3 w.if-target-sets-ne0.true) i.1))
+          (λ w. rw w.out-is (picked_without i.0 p (meets_none _ _ _ w.if-target-sets-ne0.false) i.1))
+          c.if-target-sets-ne0.branch-raw,
     )
 
 returns : tie.Need-returns invariant-loop decreases-loop
-returns c = let i = c.before.loop.invariant in picked_all i.0 c.loop-test.false i.1
+returns c = let i = c.loop-rest.invariant in picked_all i.0 c.loop-rest-test.false i.1
 
-pub back-spec : {M : Type 1} → statement M
-back-spec =
+pub back_spec : {M : Type 1} → statement M
+back_spec =
     tie.close
     (tie.spec
     invariant-loop

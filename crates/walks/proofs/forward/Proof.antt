@@ -10,72 +10,72 @@ use Rattle.walks.proofs.Filling.{Forth, forth_first, forth_next, forth_longest, 
 use Rattle.walks.proofs.forward.Statement.{statement}
 use Rattle.walks.proofs.forward.Tie as tie
 
-abbrev invariant-loop : tie.invariant-loop
+abbrev invariant-loop : tie.invariant-loop-g
 invariant-loop sets n m set word out₀ here₀ g₀ out here g = Forth n m sets set word out₀ here g out
 
-abbrev decreases-loop : tie.decreases-loop
+abbrev decreases-loop : tie.decreases-loop-g
 decreases-loop sets n m set word out₀ here₀ g₀ out here g = length word - g
 
-abbrev start : tie.At-loop invariant-loop decreases-loop → tie.Start invariant-loop decreases-loop
+abbrev start : tie.At-loop-g invariant-loop decreases-loop → tie.Start invariant-loop decreases-loop
 start c = c.before.before.before.before
 
-long : (c : tie.At-loop invariant-loop decreases-loop) → length c.loop.out ≡ length (start c).args.out.now
-long c = let a = (start c).args in c.loop.invariant.long ∙ length-set a.out.now 0 a.set
+long : (c : tie.At-loop-g invariant-loop decreases-loop) → length c.loop-g.out ≡ length (start c).args.out.now
+long c = let a = (start c).args in c.loop-g.invariant.long ∙ length-set a.out.now 0 a.set
 
-slice-write-out : tie.Need-slice-write-out invariant-loop decreases-loop
-slice-write-out c = omega (arith, c.before.before.before.requires.4)
+slice-write-out : tie.Need-bounds-out-0 invariant-loop decreases-loop
+slice-write-out c = omega (arith, c.requires.4)
 
-loop-holds : tie.Need-loop-init invariant-loop decreases-loop
-loop-holds c = let s = c.before.before.before in let p = s.requires in forth_first s.args.out.now p.1 p.2 p.4
+loop-holds : tie.Need-loop-g-init invariant-loop decreases-loop
+loop-holds c = let s = c in let p = s.requires in forth_first s.args.out.now p.1 p.2 p.4
 
-cast-gather : tie.Need-overflow-cast-gather invariant-loop decreases-loop
-cast-gather c = omega (arith, c.shared-slice-known3.given c.before.before.loop.g)
+cast-gather : tie.Need-overflow_cast-word invariant-loop decreases-loop
+cast-gather c = omega (arith, c.shared_slice_known-in-loop-g-1.given c.loop-g.g)
 
-gather-requires : tie.Need-gather-requires invariant-loop decreases-loop
+gather-requires : tie.Need-gather-next-requires invariant-loop decreases-loop
 gather-requires c κs =
-    let t = c.before.before in
-    let p = (start t).requires in
-    (p.0, rw t.loop.invariant.is (set_of_lt _ _), p.3.below t.loop.g c.before.loop-test.true)
+    let t = c in
+    let p = (start t.before.before).requires in
+    (p.0, rw t.loop-g.invariant.is (set_of_lt _ _), p.3.below t.loop-g.g c.loop-g-test.true)
 
-same_length : tie.Need-same-length invariant-loop decreases-loop
+same_length : tie.Need-shape_of-out-then-next-eq0 invariant-loop decreases-loop
 same_length c =
-    let back-5 = c.before.before.before.before.before in
-    long back-5
+    let back-5 = c in
+    long back-5.before.before.before.before.before
 
-returns : tie.Need-returns invariant-loop decreases-loop
+returns : tie.Need-returns-then-next-eq0 invariant-loop decreases-loop
 returns c =
-    let t = c.before.before.before.before.before in
-    let i = t.loop.invariant in
-    let p = (start t).requires in (
+    let t = c in
+    let i = t.loop-g.invariant in
+    let p = (start t.before.before.before.before.before).requires in (
       forth_longest i p.0 p.1
-          (λ h. none_of _ _ (next_set _ _ _ _ h _ _ i.is (c.before.before.gather.ensures.0 0)) c.if1.true),
+          (λ h. none_of _ _ (next_set _ _ _ _ h _ _ i.is (c.gather-next.ensures.0 0)) c.if-next-eq0.true),
       forth_written i,
     )
 
-slice-write-out-2 : tie.Need-slice-write-out-2 invariant-loop decreases-loop
+slice-write-out-2 : tie.Need-bounds-out-g invariant-loop decreases-loop
 slice-write-out-2 c =
-    let t = c.before.before.before.before.before in
-    omega (arith, long t, (start t).requires.4)
+    let t = c in
+    omega (arith, long t.before.before.before.before.before, (start t.before.before.before.before.before).requires.4)
 
-loop-again : tie.Need-loop-preserved invariant-loop decreases-loop
+loop-again : tie.Need-loop-g-preserved invariant-loop decreases-loop
 loop-again c =
-    let t = c.before.before.before.before in
-    let i = t.before.loop.invariant in
-    let h = t.loop-test.true in
-    forth_next i (rw length-set (start t.before).pre.4) h
-    (next_set _ _ _ _ h _ _ i.is (c.before.before.gather.ensures.0 0)) c.if1.false
+    let t = c in
+    let i = t.loop-g.invariant in
+    let h = t.loop-g-test.true in
+    forth_next i (rw length-set (start t.before.before.before.before.before).requires.4) h
+    (next_set _ _ _ _ h _ _ i.is (c.gather-next.ensures.0 0)) c.if-next-eq0.false
 
-same-length-2 : tie.Need-same-length-2 invariant-loop decreases-loop
+same-length-2 : tie.Need-shape_of-out invariant-loop decreases-loop
 same-length-2 c = long c.before
 
-returns-2 : tie.Need-returns-2 invariant-loop decreases-loop
+returns-2 : tie.Need-returns invariant-loop decreases-loop
 returns-2 c =
-    let i = c.before.loop.invariant in
-    let p = (start c.before).pre in
-    (forth_longest i p.0 p.1 (λ h. absurd (omega (arith, c.loop-test.false))), forth_written i)
+    let i = c.loop-g.invariant in
+    let p = (start c.before).requires in
+    (forth_longest i p.0 p.1 (λ h. absurd (omega (arith, c.loop-g-test.false))), forth_written i)
 
-pub forward-spec : {M : Type 1} → statement M
-forward-spec =
+pub forward_spec : {M : Type 1} → statement M
+forward_spec =
     tie.close
     (tie.spec
     invariant-loop

@@ -12,65 +12,65 @@ use Rattle.walks.proofs.Steps.{place_in, gathered}
 use Rattle.walks.proofs.gather.Statement.{statement}
 use Rattle.walks.proofs.gather.Tie as tie
 
-abbrev invariant-loop : tie.invariant-loop
+abbrev invariant-loop : tie.invariant-loop-rest
 invariant-loop sets n m set letter out₀ rounds₀ rest₀ out rounds rest =
     Left n set rest × Joined n set rest (λ s. get_or sets (place m s letter) 0) out × Counted set rest rounds
 
-abbrev decreases-loop : tie.decreases-loop
+abbrev decreases-loop : tie.decreases-loop-rest
 decreases-loop sets n m set letter out₀ rounds₀ rest₀ out rounds rest = rest
 
-module _ (c : tie.In-loop invariant-loop decreases-loop) where
-  some : 0 < c.before.loop.rest
-  some = omega (arith, c.loop-test.true)
+module _ (c : tie.In-loop-rest invariant-loop decreases-loop) where
+  some : 0 < c.loop-rest.rest
+  some = omega (arith, c.loop-rest-test.true)
 
-  small : count_trailing_zeros 64 c.before.loop.rest < c.before.before.args.n
-  small = least_below c.before.loop.invariant.0 some
+  small : count_trailing_zeros 64 c.loop-rest.rest < c.args.n
+  small = least_below c.loop-rest.invariant.0 some
 
-  room : place c.before.before.args.m (count_trailing_zeros 64 c.before.loop.rest) c.before.before.args.letter < length
-      c.before.before.args.sets.now
-  room = let p = c.before.before.requires in place_in p.0 p.2 _ small
+  room : place c.args.m (count_trailing_zeros 64 c.loop-rest.rest) c.args.letter < length
+      c.args.sets.now
+  room = let p = c.requires in place_in p.0 p.2 _ small
 
-loop-holds : tie.Need-loop-init invariant-loop decreases-loop
+loop-holds : tie.Need-loop-rest-init invariant-loop decreases-loop
 loop-holds c = (left_first _ _ c.requires.0.states c.requires.1, joined_first _ _ _, counted_first _)
 
-cast-s : tie.Need-overflow-cast-s invariant-loop decreases-loop
-cast-s c = omega (arith, small c, c.before.before.requires.0.states)
+cast-s : tie.Need-overflow_cast-s invariant-loop decreases-loop
+cast-s c = omega (arith, small c, c.requires.0.states)
 
-mul-out : tie.Need-overflow-mul-out invariant-loop decreases-loop
+mul-out : tie.Need-overflow_mul-out invariant-loop decreases-loop
 mul-out c = omega (arith, room c)
 
-add-out : tie.Need-overflow-add-out invariant-loop decreases-loop
+add-out : tie.Need-overflow_add-out invariant-loop decreases-loop
 add-out c = omega (arith, room c)
 
-mul-out-2 : tie.Need-overflow-mul-out-2 invariant-loop decreases-loop
+mul-out-2 : tie.Need-offset_bounds-sets-s invariant-loop decreases-loop
 mul-out-2 c = omega (arith, room c)
 
-shared-slice-read-out : tie.Need-shared-slice-read-out invariant-loop decreases-loop
+shared-slice-read-out : tie.Need-bounds-sets-s invariant-loop decreases-loop
 shared-slice-read-out c = omega (arith, room c.before)
 
-sub-rest : tie.Need-overflow-sub-rest invariant-loop decreases-loop
+sub-rest : tie.Need-overflow_sub-rest invariant-loop decreases-loop
 sub-rest c = some c.before
 
-add_rounds : tie.Need-overflow-add-rounds invariant-loop decreases-loop
-add_rounds c = let i = c.before.before.loop.invariant in omega (arith, counted_le i.0 i.2, i.0.width)
+add_rounds : tie.Need-overflow_add-rounds invariant-loop decreases-loop
+add_rounds c = let i = c.loop-rest.invariant in omega (arith, counted_le i.0 i.2, i.0.width)
 
-loop-less : tie.Need-loop-smaller invariant-loop decreases-loop
+loop-less : tie.Need-loop-rest-smaller invariant-loop decreases-loop
 loop-less c = strike_less _ (some c.before)
 
-loop-again : tie.Need-loop-preserved invariant-loop decreases-loop
+loop-again : tie.Need-loop-rest-preserved invariant-loop decreases-loop
 loop-again c =
-    let i = c.before.before.loop.invariant in
+    let i = c.loop-rest.invariant in
     let p = some c.before in
     (left_next i.0 p, joined_next i.0 p i.1, counted_next i.0 p i.2)
 
 returns : tie.Need-returns invariant-loop decreases-loop
 returns c =
-    let i = c.before.loop.invariant in
-    let p = c.before.before.requires in
-    (gathered p.0 p.2 i.0 c.loop-test.false i.1, counted_all i.0 c.loop-test.false i.2)
+    let i = c.loop-rest.invariant in
+    let p = c.requires in
+    (gathered p.0 p.2 i.0 c.loop-rest-test.false i.1, counted_all i.0 c.loop-rest-test.false i.2)
 
-pub gather-spec : {M : Type 1} → statement M
-gather-spec =
+pub gather_spec : {M : Type 1} → statement M
+gather_spec =
     tie.close
     (tie.spec
     invariant-loop

@@ -10,28 +10,28 @@ use Rattle.bitset.specs.Sets.{any}
 use Rattle.walks.proofs.letter_off.Statement.{statement}
 use Rattle.walks.proofs.letter_off.Tie as tie
 
-abbrev invariant-loop : tie.invariant-loop
+abbrev invariant-loop : tie.invariant-loop-i
 invariant-loop word m off₀ i₀ i-end off i = (i ≤ length word) × (off ≡ any i (λ j. leb m (get_or word j 0)))
 
-abbrev decreases-loop : tie.decreases-loop
+abbrev decreases-loop : tie.decreases-loop-i
 decreases-loop word m off₀ i₀ i-end off i = i-end - i
 
-loop-holds : tie.Need-loop-init invariant-loop decreases-loop
+loop-holds : tie.Need-loop-i-init invariant-loop decreases-loop
 unfolding any
 loop-holds c = (omega arith, refl)
 
-cast-off : tie.Need-overflow-cast-off invariant-loop decreases-loop
-cast-off c = omega (arith, c.shared-slice-known.given c.before.before.loop.i)
+cast-off : tie.Need-overflow_cast-off invariant-loop decreases-loop
+cast-off c = omega (arith, c.shared_slice_known-1.given c.loop-i.i)
 
-loop-again : tie.Need-loop-preserved invariant-loop decreases-loop
+loop-again : tie.Need-loop-i-preserved invariant-loop decreases-loop
 unfolding any
-loop-again c = (omega arith, rw (add-one, c.before.before.loop.invariant.1))
+loop-again c = (omega arith, rw (add-one, c.loop-i.invariant.1))
 
 returns : tie.Need-returns invariant-loop decreases-loop
-returns c = let i = c.before.loop in let e : i.i ≡ length c.before.before.args.word.now = omega arith in rw (← e) i.invariant.1
+returns c = let i = c.loop-i in let e : i.i ≡ length c.args.word.now = omega arith in rw (← e) i.invariant.1
 
-pub letter-off-spec : {M : Type 1} → statement M
-letter-off-spec =
+pub letter_off_spec : {M : Type 1} → statement M
+letter_off_spec =
     tie.close
     (tie.spec
     invariant-loop

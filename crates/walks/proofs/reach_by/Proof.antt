@@ -13,34 +13,34 @@ use Rattle.walks.proofs.Words.{next_set}
 use Rattle.walks.proofs.reach_by.Statement.{statement}
 use Rattle.walks.proofs.reach_by.Tie as tie
 
-abbrev invariant-loop : tie.invariant-loop
+abbrev invariant-loop : tie.invariant-loop-i
 invariant-loop sets n m set word out₀ i₀ i-end out i = (i ≤ length word) × (out ≡ set_of n (reach (bare n m sets) (has set) (take i word)))
 
-abbrev decreases-loop : tie.decreases-loop
+abbrev decreases-loop : tie.decreases-loop-i
 decreases-loop sets n m set word out₀ i₀ i-end out i = i-end - i
 
-loop-holds : tie.Need-loop-init invariant-loop decreases-loop
-loop-holds c = (omega arith, sym (set_of_has _ _ c.before.before.requires.1))
+loop-holds : tie.Need-loop-i-init invariant-loop decreases-loop
+loop-holds c = (omega arith, sym (set_of_has _ _ c.requires.1))
 
-cast-gather : tie.Need-overflow-cast-gather invariant-loop decreases-loop
-cast-gather c = omega (arith, c.shared-slice-known3.given c.before.before.loop.i)
+cast-gather : tie.Need-overflow_cast-word invariant-loop decreases-loop
+cast-gather c = omega (arith, c.shared_slice_known-in-loop-i-1.given c.loop-i.i)
 
-gather-requires : tie.Need-gather-requires invariant-loop decreases-loop
+gather-requires : tie.Need-gather-next-requires invariant-loop decreases-loop
 gather-requires c κs =
-    let at-start = c.before.before.before.before.before in
-    let i = c.before.before.loop in
+    let at-start = c in
+    let i = c.loop-i in
     let p = at-start.requires in
-    (p.0, rw i.invariant.1 (set_of_lt _ _), p.2.below i.i c.before.loop-test.true)
+    (p.0, rw i.invariant.1 (set_of_lt _ _), p.2.below i.i c.loop-i-test.true)
 
-loop-again : tie.Need-loop-preserved invariant-loop decreases-loop
+loop-again : tie.Need-loop-i-preserved invariant-loop decreases-loop
 loop-again c =
-    let t = c.before.before in
-    (omega arith, next_set _ _ _ _ t.loop-test.true _ _ t.before.loop.invariant.1 (c.gather.ensures.0 0))
+    let t = c in
+    (omega arith, next_set _ _ _ _ t.loop-i-test.true _ _ t.loop-i.invariant.1 (c.gather-next.ensures.0 0))
 
 returns : tie.Need-returns invariant-loop decreases-loop
 returns c starts =
-    let start = c.before.before.before.before in
-    let i = c.before.loop in
+    let start = c in
+    let i = c.loop-i in
     let a = start.args in
     rw (
       reach_bare a.n a.m starts a.sets.now (has a.set) a.word.now,
@@ -48,8 +48,8 @@ returns c starts =
           (omega arith),
     ) i.invariant.1
 
-pub reach-by-spec : {M : Type 1} → statement M
-reach-by-spec =
+pub reach_by_spec : {M : Type 1} → statement M
+reach_by_spec =
     tie.close
     (tie.spec
     invariant-loop
