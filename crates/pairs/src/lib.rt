@@ -2,6 +2,8 @@
 // letter (`strike_first`); a later one reads the level before, and looks again only at pairs that a letter leads to a pair struck in the
 // last one (`strike_next`). The rounds are made until no rivals are left, which come in as rows, or a round strikes none (`settle`); where
 // numbers are lent for it, how long each struck pair has lived is written down on the way.
+#![tactic(auto)]
+
 pub mod lifetimes; // lifetimes.rt: how long struck pairs have lived, written down
 
 ghost use Rattle.std.specs.Prelude.{not, ◌&&◌, ◌≡◌, ◌^◌, ◌<◌, length, replicate};

@@ -1,5 +1,7 @@
 // The record of a walk as bytes (document 01, Walks): reading its numbers, testing its layout, writing it anew or with one letter more.
 // What a record means for a walk is crate deciding's; here are only its bytes.
+#![tactic(auto)]
+
 ghost use Rattle.std.specs.Prelude.{◌≡◌, true, not, ◌∷◌, ◌++◌, ◌+◌, ◌≤◌, ◌<◌, min, eqb, length, get_or, drop, replicate};
 ghost use Rattle.bitset.specs.Sets.{any};
 ghost use Rattle.streaming.specs.PlainWalk.{limit};

@@ -1,5 +1,7 @@
 // The prepared plan (document 01) as a table of 64-bit numbers. `head_of` is the one door to a table: it tests refusal 8 and reads the
 // front; the sets behind it are lent on as `&table[SETS_FROM..]`. `write` lays a table out.
+#![tactic(auto)]
+
 ghost use Rattle.std.specs.Prelude.{◌≡◌, ℕ, ◌+◌, ◌*◌, ◌^◌, ◌≤◌, ◌<◌, length, get_or};
 ghost use Rattle.bitset.specs.Sets.{any};
 ghost use Rattle.bitset.specs.Numbers.{has};

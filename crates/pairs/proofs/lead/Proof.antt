@@ -51,81 +51,81 @@ letter c = c.before.before.before.before
 
 -- and from a turn of the seconds to that of the firsts
 abbrev first : tie.In-seconds Inv₃ μ₃ Inv₂ μ₂ Inv₁ μ₁ → tie.In-firsts Inv₃ μ₃ Inv₂ μ₂ Inv₁ μ₁
-first c = c.before.before.before
+first c = c.before.before.before.before
 
 within : (c : tie.In-letters Inv₃ μ₃ Inv₂ μ₂ Inv₁ μ₁) (q : ℕ) → q < (start c).args.n
-    → place (start c).args.m q c.before.letters.a < length (start c).args.sets.now
+    → place (start c).args.m q c.letters.a < length (start c).args.sets.now
 within c q h = place_in (start c).requires.0 _ _ h c.letters-test.true
 
-some_first : (c : tie.In-firsts Inv₃ μ₃ Inv₂ μ₂ Inv₁ μ₁) → 0 < c.before.firsts.firsts
+some_first : (c : tie.In-firsts Inv₃ μ₃ Inv₂ μ₂ Inv₁ μ₁) → 0 < c.firsts.firsts
 some_first c = omega (arith, c.firsts-test.true)
 
-r_small : (c : tie.In-firsts Inv₃ μ₃ Inv₂ μ₂ Inv₁ μ₁) → count_trailing_zeros 64 c.before.firsts.firsts < 64
-r_small c = let l = c.before.firsts.invariant.0 in omega (arith, least_below l (some_first c), l.width)
+r_small : (c : tie.In-firsts Inv₃ μ₃ Inv₂ μ₂ Inv₁ μ₁) → count_trailing_zeros 64 c.firsts.firsts < 64
+r_small c = let l = c.firsts.invariant.0 in omega (arith, least_below l (some_first c), l.width)
 
-some-second : (c : tie.In-seconds Inv₃ μ₃ Inv₂ μ₂ Inv₁ μ₁) → 0 < c.before.seconds.seconds
+some-second : (c : tie.In-seconds Inv₃ μ₃ Inv₂ μ₂ Inv₁ μ₁) → 0 < c.seconds.seconds
 some-second c = omega (arith, c.seconds-test.true)
 
-u-small : (c : tie.In-seconds Inv₃ μ₃ Inv₂ μ₂ Inv₁ μ₁) → count_trailing_zeros 64 c.before.seconds.seconds < 64
-u-small c = let l = c.before.seconds.invariant.0 in omega (arith, least_below l (some-second c), l.width)
+u-small : (c : tie.In-seconds Inv₃ μ₃ Inv₂ μ₂ Inv₁ μ₁) → count_trailing_zeros 64 c.seconds.seconds < 64
+u-small c = let l = c.seconds.invariant.0 in omega (arith, least_below l (some-second c), l.width)
 
 firsts-holds : tie.Need-firsts-init Inv₃ μ₃ Inv₂ μ₂ Inv₁ μ₁
 firsts-holds c =
-    let k = c.before.before in
-    let p = (start k).requires in
-    (left_first _ _ p.0.states (place_fits p.0 _ _ p.1 k.letters-test.true), k.before.letters.invariant.1, passed_first _ _)
+    let k = c in
+    let p = (start k.before.before).requires in
+    (left_first _ _ p.0.states (place_fits p.0 _ _ p.1 k.letters-test.true), k.letters.invariant.1, passed_first _ _)
 
 seconds-holds : tie.Need-seconds-init Inv₃ μ₃ Inv₂ μ₂ Inv₁ μ₁
 seconds-holds c =
-    let k = letter c.before in
-    let p = (start k).pre in
-    let fits = and_fits _ _ _ (place_fits p.0 _ _ p.2 k.letters-test.taken) in
-    (left_first _ _ p.0.states fits, c.before.before.firsts.invariant.1, passed_first _ _)
+    let k = letter c.before.before in
+    let p = (start k).requires in
+    let fits = and_fits _ _ _ (place_fits p.0 _ _ p.2 k.letters-test.true) in
+    (left_first _ _ p.0.states fits, c.firsts.invariant.1, passed_first _ _)
 
 seconds-again : tie.Need-seconds-preserved Inv₃ μ₃ Inv₂ μ₂ Inv₁ μ₁
 seconds-again c =
-    let i = c.before.before.seconds.invariant in
+    let i = c.seconds.invariant in
     let p = some-second c.before in
-    (left_next i.0 p, i.1, passed_next i.0 p (sym (has_test _ _) ∙ ne_eqb _ 1 c.if1.false) i.2)
+    (left_next i.0 p, i.1, passed_next i.0 p (sym (has_test _ _) ∙ ne_eqb _ 1 c.if-row-u-eq1.false) i.2)
 
 firsts-again : tie.Need-firsts-preserved Inv₃ μ₃ Inv₂ μ₂ Inv₁ μ₁
 firsts-again c =
-    let k = c.before.before.before in
-    let i = k.before.firsts.invariant in
-    let j = c.before.seconds.invariant in
-    let p = some_first k in
+    let k = c in
+    let i = k.firsts.invariant in
+    let j = c.seconds.invariant in
+    let p = some_first k.before.before.before.before in
     (left_next i.0 p, j.1, passed_next i.0 p (met_none _ _ _ (passed_all j.0 c.seconds-test.false j.2)) i.2)
 
 letters-again : tie.Need-letters-preserved Inv₃ μ₃ Inv₂ μ₂ Inv₁ μ₁
 letters-again c =
-    let f = c.before in
+    let f = c in
     let i = f.firsts.invariant in
-    let k = f.before.before.before in
-    (omega arith, i.1, below_more _ _ k.before.letters.invariant.2 (passed_all i.0 c.firsts-test.false i.2))
+    let k = f in
+    (omega arith, i.1, below_more _ _ k.letters.invariant.2 (passed_all i.0 c.firsts-test.false i.2))
 
-returns : tie.Need-returns Inv₃ μ₃ Inv₂ μ₂ Inv₁ μ₁
+returns : tie.Need-returns-after-letters Inv₃ μ₃ Inv₂ μ₂ Inv₁ μ₁
 returns c =
-    let i = c.before.letters.invariant in
-    let a = c.before.before.args in
+    let i = c.letters.invariant in
+    let a = c.args in
     let none = leads_none a.n a.m a.sets.now a.rows.now a.s a.t (λ k h. i.2 k (omega arith)) in
     (i.1 ∙ sym none, λ e. absurd (false≢true (sym i.1 ∙ e)))
 
-returns-2 : tie.Need-returns-2 Inv₃ μ₃ Inv₂ μ₂ Inv₁ μ₁
+returns-2 : tie.Need-returns-then-row-u-eq1 Inv₃ μ₃ Inv₂ μ₂ Inv₁ μ₁
 returns-2 c =
     let f = first c.before in
     let k = letter f in
-    let p = (start k).pre in
-    let i = f.before.firsts.inv.0 in
-    let j = c.before.before.seconds.invariant.0 in
+    let p = (start k).requires in
+    let i = f.firsts.invariant.0 in
+    let j = c.seconds.invariant.0 in
     let x = some_first f in
     let y = some-second c.before in
     let in-t = (and_out _ _ (sym (has_and _ _ _) ∙ least_in j y)).0 in
     let a = (start k).args in
-    leads_hit a.n a.m a.sets.now a.rows.now a.s a.t p.1 p.2 k.letters-test.taken
-    (least_below i x) (least_below j y) (least_in i x) in-t (sym (has_test _ _) ∙ eq-eqb _ 1 c.if1.true)
+    leads_hit a.n a.m a.sets.now a.rows.now a.s a.t p.1 p.2 k.letters-test.true
+    (least_below i x) (least_below j y) (least_in i x) in-t (sym (has_test _ _) ∙ eq-eqb _ 1 c.if-row-u-eq1.true)
 
-pub lead-spec : {M : Type 1} → statement M
-lead-spec =
+pub lead_spec : {M : Type 1} → statement M
+lead_spec =
     tie.close
     (tie.spec
     Inv₃
@@ -138,23 +138,23 @@ lead-spec =
     (λ c. omega (arith, within c _ (start c).requires.1))
     (λ c. omega (arith, within c _ (start c).requires.1))
     (λ c. omega (arith, within c _ (start c).requires.1, (start c).well_formed.0))
-    (λ c. let k = c.before in within k _ (start k).requires.1)
-    (λ c. let k = c.before in omega (arith, within k _ (start k).requires.2))
-    (λ c. let k = c.before in omega (arith, within k _ (start k).requires.2))
-    (λ c. let k = c.before in omega (arith, within k _ (start k).requires.2, (start k).well_formed.0))
-    (λ c. let k = c.before.before in within k _ (start k).requires.2)
+    (λ c. let k = c in within k.before _ (start k.before).requires.1)
+    (λ c. let k = c in omega (arith, within k.before _ (start k.before).requires.2))
+    (λ c. let k = c in omega (arith, within k.before _ (start k.before).requires.2))
+    (λ c. let k = c in omega (arith, within k.before _ (start k.before).requires.2, (start k.before).well_formed.0))
+    (λ c. let k = c in within k.before.before _ (start k.before.before).requires.2)
     firsts-holds
     (λ c. omega (arith, r_small c))
     (λ c. omega (arith, r_small c))
-    (λ c. r_small c)
+    (λ c. r_small c.before)
     seconds-holds
     (λ c. omega (arith, u-small c))
     (λ c. u-small c)
     (λ c. some-second c.before)
     (λ c. strike_less _ (some-second c.before))
     seconds-again
-    (λ c. some_first c.before.before.before)
-    (λ c. strike_less _ (some_first c.before.before.before))
+    (λ c. some_first c.before.before.before.before)
+    (λ c. strike_less _ (some_first c.before.before.before.before))
     firsts-again
     (λ c. omega arith)
     (λ c. omega arith)

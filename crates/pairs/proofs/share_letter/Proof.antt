@@ -9,33 +9,33 @@ use Rattle.pairs.proofs.Rounds.{level_one, one_fits}
 use Rattle.pairs.proofs.share_letter.Statement.{statement}
 use Rattle.pairs.proofs.share_letter.Tie as tie
 
-abbrev invariant-loop : tie.invariant-loop
+abbrev invariant-loop : tie.invariant-loop-a
 invariant-loop sets n m live₀ a₀ live a = (a ≤ m) × Paired live₀ live (led_on n m sets n) (led_on n m sets n) a
 
-abbrev decreases-loop : tie.decreases-loop
+abbrev decreases-loop : tie.decreases-loop-a
 decreases-loop sets n m live₀ a₀ live a = m - a
 
-loop-again : tie.Need-loop-preserved invariant-loop decreases-loop
+loop-again : tie.Need-loop-a-preserved invariant-loop decreases-loop
 loop-again c =
-    let k = c.before.before.before in
-    (omega arith, paired_next (rw c.before.before.Led-on.ensures at c.pair-up.ensures) k.before.loop.invariant.1)
+    let k = c in
+    (omega arith, paired_next (rw c.led_on-states.ensures at c.pair_up.ensures) k.loop-a.invariant.1)
 
 returns : tie.Need-returns invariant-loop decreases-loop
 returns c =
-    let f = c.before.before.before.requires in
-    let e : c.before.loop.a ≡ c.before.before.before.args.m = omega arith in
-    let k = rw e at c.before.loop.invariant.1 in
+    let f = c.requires in
+    let e : c.loop-a.a ≡ c.args.m = omega arith in
+    let k = rw e at c.loop-a.invariant.1 in
     (level_one _ _ _ f k, one_fits _ _ _ f k)
 
-pub share-letter-spec : {M : Type 1} → statement M
-share-letter-spec =
+pub share_letter_spec : {M : Type 1} → statement M
+share_letter_spec =
     tie.close
     (tie.spec
     invariant-loop
     decreases-loop
     (λ c. (omega arith, paired_first))
-    (λ c κs. (c.before.before.before.requires, c.loop-test.true))
-    (λ c κs. c.before.before.before.loop.invariant.1.long)
+    (λ c κs. (c.requires, c.loop-a-test.true))
+    (λ c κs. c.loop-a.invariant.1.long)
     (λ c. omega arith)
     (λ c. omega arith)
     loop-again

@@ -8,11 +8,14 @@ use Rattle.pairs.proofs.strike_first.Tie as tie
 
 returns : tie.Need-returns
 returns c =
-    let k = c.before.before.before in
-    let s = k.before.before in
-    let (one, low) = k.share-letter.ensures in
+    let k = c in
+    let s = k in
+    let (one, low) = k.share_letter-shared.ensures in
     let (w, u) = c.without.ensures in
     first_ends _ _ _ s.requires.0 refl one low (rw s.requires.1 at w) u
 
-pub strike-first-spec : {M : Type 1} → statement M
-strike-first-spec = tie.close (tie.spec (λ c κs. search rules) (λ c κs. search rules) returns)
+pub strike_first_spec : {M : Type 1} → statement M
+strike_first_spec = tie.close (tie.spec
+    (λ c κs. search rules)
+    (λ c κs. search rules)
+    returns)

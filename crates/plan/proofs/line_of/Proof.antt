@@ -20,7 +20,7 @@ returns : tie.Need-returns-then-h-eq-WITH_PARTIES
 returns c =
     let t = c in
     let a = t.args in
-    c.line_at_lem.ensures ∙ line_with_party a.plan.now a.h a.i t.if-h-eq-WITH_PARTIES.true
+    c.line_at.ensures ∙ line_with_party a.plan.now a.h a.i t.if-h-eq-WITH_PARTIES.true
 
 returns-2 : tie.Need-returns-else-h-eq-WITH_PARTIES
 returns-2 c =

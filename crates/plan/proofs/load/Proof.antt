@@ -50,8 +50,8 @@ others : (c : tie.Joined-lines) → let l = c in let s = start l.before.before.b
     → c.if-lines.elsewhere
     ≡ any (l.enter_lines-lines.result.highest + 1) (λ q. not (eqb q s.args.party) && twice_of (parsed s.args.plan.now) q)
 others c fits =
-    ⊎_elim (λ w. absurd (true≢false (sym w.0.true ∙ c.enter_lines-lines.ensures.off_is ∙ fits)))
-    (λ w. w.2 ∙ w.1.ensures) c.if-lines.branch-raw
+    ⊎_elim (λ w. absurd (true≢false (sym w.if-lines.true ∙ c.enter_lines-lines.ensures.off_is ∙ fits)))
+    (λ w. w.elsewhere-is ∙ w.twice_elsewhere-elsewhere.ensures) c.if-lines.branch-raw
 
 -- what is found is the first of the checks on the parts
 returns-3 : tie.Need-returns-then-refused-ne0

@@ -41,8 +41,8 @@ loop-again c =
     let found = twice_of (parsed a.plan.now) in (
       search rules,
       ⊎_elim
-          (λ w. w.2 ∙ elsewhere_next a.party found l.loop-other.invariant.1 w.0.true (rw l.header_of-h.ensures at w.1.ensures))
-          (λ w. w.1 ∙ elsewhere_same a.party found l.loop-other.invariant.1 w.0.left)
+          (λ w. w.twice-is ∙ elsewhere_next a.party found l.loop-other.invariant.1 w.if-other-party.true (rw l.header_of-h.ensures at w.twice_of-twice.ensures))
+          (λ w. w.twice-is ∙ elsewhere_same a.party found l.loop-other.invariant.1 w.if-other-party.false)
           c.if-other-party.branch-raw,
     )
 

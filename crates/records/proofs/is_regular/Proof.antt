@@ -9,19 +9,22 @@ use borrow.Author.Rules.{rules}
 use Rattle.records.proofs.is_regular.Statement.{statement}
 use Rattle.records.proofs.is_regular.Tie as tie
 
-returns : tie.Need-returns
+returns : tie.Need-returns-then-fed-k
 unfolding limit
 returns c =
-    let a = c.before.before.args in
-    rw (lt-ltb _ _ c.if1.true, c.before.lesser.ensures)
+    let a = c.args in
+    rw (lt-ltb _ _ c.if-fed-k.true, c.lesser.ensures)
     (and_last (leb a.fed 1000000) (eqb a.held (min a.fed a.k)) (eqb a.last 255))
 
-returns-2 : tie.Need-returns-2
+returns-2 : tie.Need-returns-else-fed-k
 unfolding limit
 returns-2 c =
-    let a = c.before.before.args in
-    rw (le-ltb _ _ c.if1.false, c.before.lesser.ensures)
+    let a = c.args in
+    rw (le-ltb _ _ c.if-fed-k.false, c.lesser.ensures)
     (and_last (leb a.fed 1000000) (eqb a.held (min a.fed a.k)) (ltb a.last a.n))
 
-pub is-regular-spec : {M : Type 1} → statement M
-is-regular-spec = tie.close (tie.spec (λ c κs. search rules) returns returns-2)
+pub is_regular_spec : {M : Type 1} → statement M
+is_regular_spec = tie.close (tie.spec
+    (λ c κs. search rules)
+    returns
+    returns-2)

@@ -6,14 +6,14 @@ use borrow.Author.Rules.{rules}
 use Rattle.records.proofs.is_tidy.Statement.{statement}
 use Rattle.records.proofs.is_tidy.Tie as tie
 
-returns : tie.Need-returns
-returns c = tidy_over _ _ (omega (arith, c.before.held_of.ensures))
+returns : tie.Need-returns-then-k-held
+returns c = tidy_over _ _ (omega (arith, c.held_of-held.ensures))
 
-returns-2 : tie.Need-returns-2
-returns-2 c = tidy_is _ _ c.before.before.before.held_of.ensures c.before.before.if1.false c.is_zero.ensures
+returns-2 : tie.Need-returns
+returns-2 c = tidy_is _ _ c.held_of-held.ensures c.if-k-held.false c.is_zero.ensures
 
-pub is-tidy-spec : {M : Type 1} → statement M
-is-tidy-spec =
+pub is_tidy_spec : {M : Type 1} → statement M
+is_tidy_spec =
     tie.close
     (tie.spec
     (λ c κs. search rules)

@@ -19,35 +19,35 @@ tidied c = tidy_out _ _ c.requires.1
 
 push-requires : tie.Need-push-requires
 push-requires c κs =
-    let s = c.before.before.before.before.before.before in
-    (omega (arith, (tidied s).count, c.before.held_of.ensures), simp (length-take, length-drop) (omega (arith, s.requires.0)))
+    let s = c in
+    (omega (arith, (tidied s.before.before.before.before).count, c.held_of-held.ensures), simp (length-take, length-drop) (omega (arith, s.requires.0)))
 
-add-write-numbers : tie.Need-overflow-add-write-numbers
+add-write-numbers : tie.Need-overflow_add-fed
 unfolding limit
 add-write-numbers c =
-    let f = c.before.before.before.before.before.before.before in
-    omega (arith, f.fed-of.ensures, f.before.before.before.requires.2)
+    let f = c in
+    omega (arith, f.fed_of-fed.ensures, f.requires.2)
 
-add-lesser : tie.Need-overflow-add-lesser
+add-lesser : tie.Need-overflow_add-held
 add-lesser c =
-    let h = c.before.before.before.before.before in
-    let s = h.before.before.before.before.before in
-    omega (arith, (tidied s).count, s.requires.0, h.held_of.ensures)
+    let h = c in
+    let s = h in
+    omega (arith, (tidied s.before.before.before.before.before.before.before.before).count, s.requires.0, h.held_of-held.ensures)
 
 returns : tie.Need-returns
 returns c =
-    let at_push = c.before.before.before.before.before.before.before in
-    let g = at_push.before.before in
-    let f = g.before.before in
-    let s = f.before.before.before in
+    let at_push = c in
+    let g = at_push in
+    let f = g in
+    let s = f in
     let a = s.args in
     let b = a.rec.now in
-    let h = g.held_of.result in
+    let h = g.held_of-held.result in
     let back = part_back 8 (length b - 8) b _ (λ l. pushed a.k h l a.letter) (omega arith)
     at_push.push.ensures in
-    taken_bytes a.k b s.requires.0 (tidied s) h _ a.last a.letter _ _ _ g.held_of.ensures
-    (add-one f.fed-of.result ∙ ap suc f.fed-of.ensures) c.before.before.before.lesser.ensures back
-    c.before.before.write-numbers.ensures
+    taken_bytes a.k b s.requires.0 (tidied s.before.before.before.before.before.before.before.before.before.before.before.before) h _ a.last a.letter _ _ _ g.held_of-held.ensures
+    (add-one f.fed_of-fed.result ∙ ap suc f.fed_of-fed.ensures) c.lesser.ensures back
+    c.write_numbers.ensures
 
 pub keep_spec : {M : Type 1} → statement M
 keep_spec =

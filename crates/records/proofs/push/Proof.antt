@@ -7,16 +7,16 @@ use borrow.Author.Rules.{rules}
 use Rattle.records.proofs.push.Statement.{statement}
 use Rattle.records.proofs.push.Tie as tie
 
-returns : tie.Need-returns
-returns c = pushed_free _ _ _ _ c.if1.true c.before.before.requires.1
+returns : tie.Need-returns-then-h-k
+returns c = pushed_free _ _ _ _ c.if-h-k.true c.requires.1
 
-returns-2 : tie.Need-returns-2
+returns-2 : tie.Need-returns-then-k-gt0
 returns-2 c =
-    let start = c.before.before.before.before.before.before.before in
+    let start = c in
     let a = start.args in let e : a.h ≡ a.k = omega arith in
-    rw e c.before.before.move_up.ensures
+    rw e c.move_up.ensures
 
-returns-3 : tie.Need-returns-3
+returns-3 : tie.Need-returns-else-k-gt0
 returns-3 c = pushed_none _ _ _ _ (omega arith) (omega arith)
 
 pub push_spec : {M : Type 1} → statement M

@@ -12,13 +12,13 @@ use Rattle.records.proofs.start.Tie as tie
 
 returns : tie.Need-returns
 returns c =
-    let at_clear = c.before.before.before.before.before.before in
-    let s = at_clear.before.before.before in
+    let at_clear = c in
+    let s = at_clear in
     let b = s.args.rec.now in
     let k = s.args.k in
     let back = part_back 8 (length b - 8) b _ (λ l. replicate k 0 ++ drop k l) (omega arith)
     at_clear.clear.ensures in
-    begun_bytes k _ b _ _ s.requires back c.before.before.write-numbers.ensures
+    begun_bytes k _ b _ _ s.requires back c.write_numbers.ensures
 
 pub start_spec : {M : Type 1} → statement M
 start_spec =

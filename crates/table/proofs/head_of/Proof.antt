@@ -9,36 +9,36 @@ use Rattle.table.proofs.Fitness.{Fitting, fitting}
 use Rattle.table.proofs.head_of.Statement.{statement}
 use Rattle.table.proofs.head_of.Tie as tie
 
-sound : (c : tie.Else1) → unfit c.before.before.before.args.table.now ≡ false
-sound c = sym c.before.is-unfit.ensures ∙ c.if1.false
+sound : (c : tie.Else-is_unfit) → unfit c.args.table.now ≡ false
+sound c = sym c.is_unfit.ensures ∙ c.if-is_unfit.false
 
-fit : (c : tie.Else1) → Fitting c.before.before.before.args.table.now
+fit : (c : tie.Else-is_unfit) → Fitting c.args.table.now
 fit c = fitting _ (sound c)
 
-returns : tie.Need-returns
-returns c = rw (← c.before.is-unfit.ensures, c.if1.true)
+returns : tie.Need-returns-then-is_unfit
+returns c = rw (← c.is_unfit.ensures, c.if-is_unfit.true)
 
-shared-slice-read-t4 : tie.Need-shared-slice-read-t4
+shared-slice-read-t4 : tie.Need-bounds-table-0
 shared-slice-read-t4 c = omega (arith, (fit c.before).room)
 
-shared-slice-read-t7 : tie.Need-shared-slice-read-t7
+shared-slice-read-t7 : tie.Need-bounds-table-1
 shared-slice-read-t7 c = omega (arith, (fit c.before.before).room)
 
-shared-slice-read-t10 : tie.Need-shared-slice-read-t10
+shared-slice-read-t10 : tie.Need-bounds-table-2
 shared-slice-read-t10 c = omega (arith, (fit c.before.before.before).room)
 
-shared-slice-read-t13 : tie.Need-shared-slice-read-t13
+shared-slice-read-t13 : tie.Need-bounds-table-3
 shared-slice-read-t13 c =
-    let back-4 = c.before.before.before.before in
-    omega (arith, (fit back-4).room)
+    let back-4 = c in
+    omega (arith, (fit back-4.before.before.before.before).room)
 
-returns-2 : tie.Need-returns-2
+returns-2 : tie.Need-returns
 returns-2 c =
-    let back-4 = c.before.before.before.before in
-    rw (sound back-4)
+    let back-4 = c in
+    rw (sound back-4.before.before.before.before)
 
-pub head-of-spec : {M : Type 1} → statement M
-head-of-spec =
+pub head_of_spec : {M : Type 1} → statement M
+head_of_spec =
     tie.close
     (tie.spec
     (λ c κs. search rules)

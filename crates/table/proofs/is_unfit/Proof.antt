@@ -8,44 +8,44 @@ use Rattle.table.proofs.Fitness.{Ranged, refused, fitting_inside, inside, cells_
 use Rattle.table.proofs.is_unfit.Statement.{statement}
 use Rattle.table.proofs.is_unfit.Tie as tie
 
-ranged : (c : tie.Else2) → Ranged c.before.before.before.before.before.args.table.now
-ranged c = inside _ c.if2.false
+ranged : (c : tie.Else-n-m) → Ranged c.args.table.now
+ranged c = inside _ c.if-n-m.false
 
-returns : tie.Need-returns
-returns c = sym (refused _ (λ f. omega (arith, f.room, c.if1.true)))
+returns : tie.Need-returns-then-table-lt-SETS_FROM
+returns c = sym (refused _ (λ f. omega (arith, f.room, c.if-table-lt-SETS_FROM.true)))
 
-returns-2 : tie.Need-returns-2
-returns-2 c = sym (refused _ (λ f. false≢true (sym (fitting_inside f) ∙ c.if2.true)))
+returns-2 : tie.Need-returns-then-n-m
+returns-2 c = sym (refused _ (λ f. false≢true (sym (fitting_inside f) ∙ c.if-n-m.true)))
 
-mul-end : tie.Need-overflow-mul-end
+mul-end : tie.Need-overflow_mul-end
 mul-end c = omega (arith, cells_le (ranged c))
 
-add-end : tie.Need-overflow-add-end
+add-end : tie.Need-overflow_add-end
 add-end c = omega (arith, cells_le (ranged c))
 
-returns-3 : tie.Need-returns-3
-returns-3 c = sym (refused _ (λ f. omega (arith, f.room, c.if3.true)))
+returns-3 : tie.Need-returns-then-table-end
+returns-3 c = sym (refused _ (λ f. omega (arith, f.room, c.if-table-end.true)))
 
-cast-mask : tie.Need-overflow-cast-mask
+cast-mask : tie.Need-overflow_cast-n
 cast-mask c = omega (arith, ranged c.before.before.before)
 
-sub-result : tie.Need-overflow-sub-result
+sub-result : tie.Need-overflow_sub-result
 sub-result c =
-    let back-4 = c.before.before.before.before in
-    (ranged back-4).some_state
+    let back-4 = c in
+    (ranged back-4.before.before.before.before).some_state
 
-mul-result : tie.Need-overflow-mul-result
+mul-result : tie.Need-overflow_mul-result
 mul-result c =
-    let back-4 = c.before.before.before.before in
-    omega (arith, pairs_le _ (ranged back-4).states)
+    let back-4 = c in
+    omega (arith, pairs_le _ (ranged back-4.before.before.before.before).states)
 
-returns-4 : tie.Need-returns-4
+returns-4 : tie.Need-returns
 returns-4 c =
-    let t = c.before.before.before.before in
-    tested (ranged t.before) t.if3.false _ _ c.before.before.union-of.ensures c.before.mask.ensures
+    let t = c in
+    tested (ranged t.before.before.before.before.before) t.if-table-end.false _ _ c.union_of-all.ensures c.mask-mask.ensures
 
-pub is-unfit-spec : {M : Type 1} → statement M
-is-unfit-spec =
+pub is_unfit_spec : {M : Type 1} → statement M
+is_unfit_spec =
     tie.close
     (tie.spec
     returns

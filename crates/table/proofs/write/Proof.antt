@@ -7,23 +7,23 @@ use Rattle.table.proofs.Form.{Copied, copied_none, copied_next, copied_all}
 use Rattle.table.proofs.write.Statement.{statement}
 use Rattle.table.proofs.write.Tie as tie
 
-abbrev invariant-loop : tie.invariant-loop
+abbrev invariant-loop : tie.invariant-loop-i
 invariant-loop table₀ n m k starts sets i₀ i-end table i = (i ≤ i-end) × Copied table₀ sets i table
 
-abbrev decreases-loop : tie.decreases-loop
+abbrev decreases-loop : tie.decreases-loop-i
 decreases-loop table₀ n m k starts sets i₀ i-end table i = i-end - i
 
-loop-holds : tie.Need-loop-init invariant-loop decreases-loop
+loop-holds : tie.Need-loop-i-init invariant-loop decreases-loop
 loop-holds c = (omega arith, copied_none _ _)
 
-loop-again : tie.Need-loop-preserved invariant-loop decreases-loop
-loop-again c = (omega arith, copied_next c.before.before.loop.invariant.1 (omega arith) (omega arith))
+loop-again : tie.Need-loop-i-preserved invariant-loop decreases-loop
+loop-again c = (omega arith, copied_next c.loop-i.invariant.1 (omega arith) (omega arith))
 
-same_length : tie.Need-same-length invariant-loop decreases-loop
-same_length c = simp length-set c.before.loop.invariant.1.long
+same_length : tie.Need-shape_of-table invariant-loop decreases-loop
+same_length c = simp length-set c.loop-i.invariant.1.long
 
 returns : tie.Need-returns invariant-loop decreases-loop
-returns c = let (fit, starts, room) = c.before.before.requires in copied_all c.before.loop.invariant.1 _ _ _ _ (omega arith) fit starts room
+returns c = let (fit, starts, room) = c.requires in copied_all c.loop-i.invariant.1 _ _ _ _ (omega arith) fit starts room
 
 pub write_spec : {M : Type 1} → statement M
 write_spec =

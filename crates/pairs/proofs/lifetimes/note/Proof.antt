@@ -11,34 +11,34 @@ use Rattle.pairs.proofs.Notes.{rows_first, rows_next}
 use Rattle.pairs.proofs.lifetimes.note.Statement.{statement}
 use Rattle.pairs.proofs.lifetimes.note.Tie as tie
 
-abbrev invariant-loop : tie.invariant-loop
+abbrev invariant-loop : tie.invariant-loop-s
 invariant-loop lifetimes₀ n struck letters s₀ lifetimes s =
     (s ≤ n) × Noted (λ x t. ltb x s && pair struck x t) letters lifetimes₀ lifetimes
 
-abbrev decreases-loop : tie.decreases-loop
+abbrev decreases-loop : tie.decreases-loop-s
 decreases-loop lifetimes₀ n struck letters s₀ lifetimes s = n - s
 
-abbrev start : tie.At-loop invariant-loop decreases-loop → tie.Start invariant-loop decreases-loop
+abbrev start : tie.At-loop-s invariant-loop decreases-loop → tie.Start invariant-loop decreases-loop
 start c = c.before.before
 
-small : (c : tie.In-loop invariant-loop decreases-loop) → c.before.loop.s < 64
-small c = omega (arith, (start c.before).pre.0)
+small : (c : tie.In-loop-s invariant-loop decreases-loop) → c.loop-s.s < 64
+small c = omega (arith, (start c.before).requires.0)
 
-pub note-spec : {M : Type 1} → statement M
-note-spec =
+pub note_spec : {M : Type 1} → statement M
+note_spec =
     tie.close
     (tie.spec
     invariant-loop
     decreases-loop
-    (λ c. (omega arith, rows_first c.before.args.struck.now))
+    (λ c. (omega arith, rows_first c.args.struck.now))
     (λ c. omega (arith, small c.before))
-    (λ c. small c.before)
-    (λ c κs. let l = c.before.before.before in (small c.before.before, l.loop.invariant.1.long ∙ (start l).requires.1))
+    (λ c. small c.before.before)
+    (λ c κs. let l = c in (small c.before.before.before, l.loop-s.invariant.1.long ∙ (start l.before.before.before.before).requires.1))
     (λ c. omega arith)
     (λ c. omega arith)
     (λ c.
-    let k = c.before.before in
-    let l = k.before.before.before.before in
-    (omega arith, rows_next (start l).args.struck.now _ l.loop.invariant.1 k.note-row.ensures))
-    (λ c. c.before.loop.invariant.1.long)
-    (λ c. let e : c.before.loop.s ≡ (start c.before).args.n = omega arith in rw e at c.before.loop.invariant.1))
+    let k = c in
+    let l = k in
+    (omega arith, rows_next (start l.before.before.before.before.before.before.before).args.struck.now _ l.loop-s.invariant.1 k.note_row.ensures))
+    (λ c. c.loop-s.invariant.1.long)
+    (λ c. let e : c.loop-s.s ≡ (start c.before).args.n = omega arith in rw e at c.loop-s.invariant.1))
