@@ -1,5 +1,7 @@
 // What a record of a walk comes to on the sets of a prepared table (document 01, Walks): where it stands, what is due, the answers to
 // opening and to a letter, the possible states of what is open. Nothing of the record is written here.
+#![tactic(auto)]
+
 ghost use Rattle.std.specs.Prelude.{◌≡◌, ℕ, suc, ◌+◌, ◌-◌, ◌^◌, ◌≤◌, ◌<◌, length};
 ghost use Rattle.bitset.specs.Numbers.{has, set_of};
 ghost use Rattle.semiautomata.specs.Walks.{reach};

@@ -1,4 +1,6 @@
 // What a program is given: plan bytes, as many as these say themselves, and then more (the report's letters; nothing that the page looks at).
+#![tactic(auto)]
+
 ghost use Rattle.std.specs.Prelude.{◌≡◌, ◌<◌};
 ghost use Rattle.inputs.specs.Inputs.{total_of, no_plan, wanted as Inputs·wanted};
 

@@ -134,8 +134,8 @@ module _ {S : Semiautomaton} (W : Within S) {rows : List ℕ} {s t : ℕ} {old :
           lives = f;
           long = length-set letters i a ∙ T.long;
           kept = drop-set-lt (i + 1) letters i a (omega arith) ∙ rw (← drop-drop 1 i letters, ← drop-drop 1 i old, T.kept);
-          s_path = (way_next a r (omega arith) room d (way_start T.s_path)).on;
-          t_path = (way_next a q (omega arith) room e (way_start T.t_path)).on;
+          s_path = (way_next {S = S} a r (omega arith) room d (way_start T.s_path)).on;
+          t_path = (way_next {S = S} a q (omega arith) room e (way_start T.t_path)).on;
           wide = simp length-set T.wide;
           marked = marked;
           count = rw (size_cong (S.n * S.n) _ _ (λ p _. unmarked p)) (omega (arith, left, T.count));

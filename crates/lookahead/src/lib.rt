@@ -1,6 +1,8 @@
 // The look-ahead of a semiautomaton by its successor sets, or the witness that there is none; never from plan bytes.
 // Which pairs of states are rivals is worked out here, which pairs share words in crate pairs: the first number of letters with which no
 // rivals do is the look-ahead.
+#![tactic(auto)]
+
 pub mod rivals; // rivals.rt: the rows of rivals, and the states that some walk reaches
 mod witness; // witness.rt: the critical set and the lasso of two states that share words of every length
 

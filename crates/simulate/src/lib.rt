@@ -1,5 +1,7 @@
 // One step on a prepared table (document 02, W-204), whole walks, and verdicts on look-ahead words (document 01, Walks; Verdict on a
 // look-ahead word). All judge what they are lent first; the walking itself is crate walks'.
+#![tactic(auto)]
+
 ghost use Rattle.std.specs.Prelude.{◌≡◌, not, ℕ, ◌^◌, ◌<◌};
 ghost use Rattle.bitset.specs.Sets.{any};
 ghost use Rattle.bitset.specs.Numbers.{has};

@@ -6,13 +6,16 @@ use borrow.Author.Rules.{rules}
 use Rattle.deciding.proofs.base_of.Statement.{statement}
 use Rattle.deciding.proofs.base_of.Tie as tie
 
-returns : tie.Need-returns
+returns : tie.Need-returns-then-fed-k
 unfolding base_set
-returns c = rw (lt-ltb _ _ c.if1.true)
+returns c = rw (lt-ltb _ _ c.if-fed-k.true)
 
-returns-2 : tie.Need-returns-2
+returns-2 : tie.Need-returns-else-fed-k
 unfolding base_set
-returns-2 c = rw (le-ltb _ _ c.before.if1.false) c.singleton.ensures
+returns-2 c = rw (le-ltb _ _ c.if-fed-k.false) c.singleton.ensures
 
-pub base-of-spec : {M : Type 1} → statement M
-base-of-spec = tie.close (tie.spec (λ c κs. search rules) returns returns-2)
+pub base_of_spec : {M : Type 1} → statement M
+base_of_spec = tie.close (tie.spec
+    (λ c κs. search rules)
+    returns
+    returns-2)

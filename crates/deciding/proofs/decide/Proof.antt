@@ -19,19 +19,19 @@ use Rattle.deciding.proofs.decide.Statement.{statement}
 use Rattle.deciding.proofs.decide.Tie as tie
 
 -- the places that control came by
-abbrev start : tie.Else1 → tie.Start
+abbrev start : tie.Else-here-eq0 → tie.Start
 start c = c.before.before.before.before
 
-abbrev from-2 : tie.Else2 → tie.Else1
+abbrev from-2 : tie.Else-fed-eq-LIMIT → tie.Else-here-eq0
 from-2 c = c.before.before
 
-abbrev from-3 : tie.Else3 → tie.Else2
+abbrev from-3 : tie.Else-m-a → tie.Else-fed-eq-LIMIT
 from-3 c = c.before
 
-abbrev from-4 : tie.Else4 → tie.Else3
+abbrev from-4 : tie.Else-next-eq0 → tie.Else-m-a
 from-4 c = c.before.before.before
 
-abbrev from-held : tie.After-held-of → tie.Else5
+abbrev from-held : tie.After-held_of-end → tie.Else-taken-k
 from-held c = c.before.before.before
 
 abbrev meaning : tie.Start → Semiautomaton
@@ -41,123 +41,123 @@ meaning c = let a = c.args in successors a.n a.m a.starts a.sets.now
 by : (c : tie.Start) → By (meaning c) c.args.starts
 by c = by_sets c.requires.0 c.requires.1
 
-stands : (c : tie.Else1) → let s = start c in Standing (meaning s) s.args.k s.args.rec.now c.before.stand.result
-stands c = let s = start c in standing_some (by s) s.args.k s.args.rec.now s.pre.2 c.before.stand.ensures c.if1.false
+stands : (c : tie.Else-here-eq0) → let s = start c in Standing (meaning s) s.args.k s.args.rec.now c.stand-here.result
+stands c = let s = start c in standing_some (by s) s.args.k s.args.rec.now s.requires.2 c.stand-here.ensures c.if-here-eq0.false
 
-room : (c : tie.Else2) → (decode (start (from-2 c)).args.rec.now).fed < limit
+room : (c : tie.Else-fed-eq-LIMIT) → (decode (start (from-2 c)).args.rec.now).fed < limit
 unfolding limit
-room c = omega (arith, (stands (from-2 c)).keeps.fed_le, c.before.fed-of.ensures, c.if2.false)
+room c = omega (arith, (stands (from-2 c)).keeps.fed_le, c.fed_of-fed.ensures, c.if-fed-eq-LIMIT.false)
 
-below : (c : tie.Else3) → let a = (start (from-2 (from-3 c))).args in a.letter < a.m
-below c = c.if3.false
+below : (c : tie.Else-m-a) → let a = (start (from-2 (from-3 c))).args in a.letter < a.m
+below c = c.if-m-a.false
 
-next : (c : tie.After-gather) → let e = from-2 (from-3 c.before) in let s = start e in
-    c.gather.result.set ≡ set_of s.args.n (step (meaning s) (has e.before.stand.result) s.args.letter)
+next : (c : tie.After-gather-next) → let e = from-2 (from-3 c.before) in let s = start e in
+    c.gather-next.result.set ≡ set_of s.args.n (step (meaning s) (has e.stand-here.result) s.args.letter)
 next c =
     let e = from-2 (from-3 c.before) in
     let s = start e in
-    c.gather.ensures.0 s.args.starts
+    c.gather-next.ensures.0 s.args.starts
 
-few : (c : tie.After-held-of) → c.held_of.result ≤ (start (from-2 (from-3 (from-4 (from-held c).before)))).args.k
-few c = omega (arith, (stands (from-2 (from-3 (from-4 (from-held c).before)))).keeps.held_is, c.held_of.ensures)
+few : (c : tie.After-held_of-end) → c.held_of-end.result ≤ (start (from-2 (from-3 (from-4 (from-held c).before)))).args.k
+few c = omega (arith, (stands (from-2 (from-3 (from-4 (from-held c).before)))).keeps.held_is, c.held_of-end.ensures)
 
-part : (c : tie.After-held-of) → let b = (start (from-2 (from-3 (from-4 (from-held c).before)))).args.rec.now in
-    take (8 + c.held_of.result - 8) (drop 8 b) ≡ (decode b).held
-part c = part_first 8 _ _ (start (from-2 (from-3 (from-4 (from-held c).before)))).args.rec.now c.held_of.ensures
+part : (c : tie.After-held_of-end) → let b = (start (from-2 (from-3 (from-4 (from-held c).before)))).args.rec.now in
+    take (8 + c.held_of-end.result - 8) (drop 8 b) ≡ (decode b).held
+part c = part_first 8 _ _ (start (from-2 (from-3 (from-4 (from-held c).before)))).args.rec.now c.held_of-end.ensures
 
-returns : tie.Need-returns
+returns : tie.Need-returns-then-here-eq0
 returns c =
-    let s = c.before.before.before.before in
+    let s = c in
     let a = s.args in
-    judged_10 (meaning s) a.k a.rec.now a.letter
-    (standing_none (by s) a.k a.rec.now s.requires.2 c.before.stand.ensures c.if1.true)
+    judged_10 (meaning s.before.before.before.before) a.k a.rec.now a.letter
+    (standing_none (by s.before.before.before.before) a.k a.rec.now s.requires.2 c.stand-here.ensures c.if-here-eq0.true)
 
-returns-2 : tie.Need-returns-2
+returns-2 : tie.Need-returns-then-fed-eq-LIMIT
 unfolding limit
-returns-2 c = let e = c.before.before in judged_11 (stands e) (by (start e)) _ (omega (arith, c.before.fed-of.ensures, c.if2.true))
+returns-2 c = let e = c in judged_11 (stands e.before.before) (by (start e.before.before)) _ (omega (arith, c.fed_of-fed.ensures, c.if-fed-eq-LIMIT.true))
 
-returns-3 : tie.Need-returns-3
+returns-3 : tie.Need-returns-then-m-a
 returns-3 c =
-    let e = c.before in
-    let d = from-2 e in
-    judged_12 (stands d) (by (start d)) _ (room e) c.if3.true
+    let e = c in
+    let d = from-2 e.before in
+    judged_12 (stands d) (by (start d)) _ (room e.before) c.if-m-a.true
 
-gather-requires : tie.Need-gather-requires
-gather-requires c κs = let d = from-2 (from-3 c) in ((start d).pre.0, rw (stands d).is (set_of_lt _ _), c.if3.false)
+gather-requires : tie.Need-gather-next-requires
+gather-requires c κs = let d = from-2 (from-3 c) in ((start d).requires.0, rw (stands d).is (set_of_lt _ _), c.if-m-a.false)
 
-returns-4 : tie.Need-returns-4
+returns-4 : tie.Need-returns-then-next-eq0
 returns-4 c =
-    let g = c.before.before in
-    let f = g.before in
-    let e = from-3 f in
+    let g = c in
+    let f = g in
+    let e = from-3 f.before.before.before in
     let d = from-2 e in
-    judged_13 (stands d) (by (start d)) _ (room e) (below f) (next g) c.if4.true
+    judged_13 (stands d) (by (start d)) _ (room e) (below f.before.before.before) (next g.before.before) c.if-next-eq0.true
 
-add-taken : tie.Need-overflow-add-taken
+add-taken : tie.Need-overflow_add-taken
 unfolding limit
-add-taken c = let e = from-3 (from-4 c) in omega (arith, room e, e.before.fed-of.ensures)
+add-taken c = let e = from-3 (from-4 c) in omega (arith, room e, e.fed_of-fed.ensures)
 
-returns-5 : tie.Need-returns-5
+returns-5 : tie.Need-returns-then-taken-k
 returns-5 c =
-    let g = c.before.before.before in
-    let f = g.before in
-    let e = from-3 f in
+    let g = c in
+    let f = g in
+    let e = from-3 f.before.before.before.before in
     let d = from-2 e in
-    judged_nothing (stands d) (by (start d)) _ (room e) (below f) (next g) c.before.if4.false
-    (omega (arith, c.if5.true, e.before.fed-of.ensures))
+    judged_nothing (stands d) (by (start d)) _ (room e) (below f.before.before.before.before) (next g.before.before.before) c.if-next-eq0.false
+    (omega (arith, c.if-taken-k.true, e.fed_of-fed.ensures))
 
-add-end : tie.Need-overflow-add-end
+add-end : tie.Need-overflow_add-end
 add-end c = omega (arith, few c, (start (from-2 (from-3 (from-4 (from-held c).before)))).requires.2)
 
-part-due-end : tie.Need-slice-bounds-due-end
+part-due-end : tie.Need-slice_bounds-due-end
 part-due-end c = omega (arith, few c, (start (from-2 (from-3 (from-4 (from-held c).before)))).requires.2)
 
-due-requires : tie.Need-due-requires
+due-requires : tie.Need-due-set-requires
 due-requires c κs =
     let h = from-held c.before in
-    let g = h.before.before.before in
-    let f = g.before in
-    let e = from-3 f in
+    let g = h in
+    let f = g in
+    let e = from-3 f.before.before.before.before in
     let d = from-2 e in
     let s = start d in
     let o = stands d in
     let q = part c.before in
-    let fed = e.before.fed-of.ensures in
-    let base = c.before.before.base-of in
+    let fed = e.fed_of-fed.ensures in
+    let base = c.base_of-base in
     let is = from_is (by s) _ (decode s.args.rec.now) o.keeps.last_lt base.ensures fed in
     let lt = from_lt (by s) _ (decode s.args.rec.now) o.keeps.last_lt base.ensures fed in (
-      s.pre.0,
+      s.requires.0,
       lt,
-      rw (q, o.long, o.keeps.held_is) (omega (arith, h.if5.left, fed)),
+      rw (q, o.long, o.keeps.held_is) (omega (arith, h.if-taken-k.false, fed)),
       (
         rw q o.letters,
-        below f,
-        h.before.if4.left,
-        λ starts. reached_from _ _ s.args.starts starts s.args.sets.now _ _ o is q (next g),
+        below f.before.before.before.before,
+        h.if-next-eq0.false,
+        λ starts. reached_from _ _ s.args.starts starts s.args.sets.now _ _ o is q (next g.before.before.before),
       ),
     )
 
 resolution-requires : tie.Need-resolution-requires
 unfolding limit
 resolution-requires c κs = let e = from-3 (from-4 (from-held c.before.before).before) in
-    omega (arith, room e, e.before.fed-of.ensures)
+    omega (arith, room e, e.fed_of-fed.ensures)
 
-returns-6 : tie.Need-returns-6
+returns-6 : tie.Need-returns
 returns-6 c =
-    let at-base-of = c.before.before.before.before in
+    let at-base-of = c in
     let h = from-held c.before.before.before in
-    let g = h.before.before.before in
-    let f = g.before in
-    let e = from-3 f in
+    let g = h in
+    let f = g in
+    let e = from-3 f.before.before.before.before in
     let d = from-2 e in
-    let fed = e.before.fed-of.ensures in
+    let fed = e.fed_of-fed.ensures in
     let s = start d in
-    judged_resolved (stands d) (by s) _ (room e) (below f) (next g) h.before.if4.left (omega (arith, h.if5.left, fed))
-    _ (from_is (by s) _ (decode s.args.rec.now) (stands d).keeps.last_lt at-base-of.base-of.ensures fed)
-    (part c.before.before.before) (c.before.due.ensures s.args.starts) fed _ c.resolution.ensures
+    judged_resolved (stands d) (by s) _ (room e) (below f.before.before.before.before) (next g.before.before.before) h.if-next-eq0.false (omega (arith, h.if-taken-k.false, fed))
+    _ (from_is (by s) _ (decode s.args.rec.now) (stands d).keeps.last_lt at-base-of.base_of-base.ensures fed)
+    (part c.before.before.before) (c.due-set.ensures s.args.starts) fed _ c.resolution.ensures
 
-pub decide-spec : {M : Type 1} → statement M
-decide-spec =
+pub decide_spec : {M : Type 1} → statement M
+decide_spec =
     tie.close
     (tie.spec
     (λ c κs. search rules)

@@ -7,7 +7,9 @@ use Rattle.inputs.proofs.no_plan.Tie as tie
 
 returns : tie.Need-returns
 unfolding no_plan
-returns c = rw c.total.ensures.0
+returns c = rw c.total-end.ensures.0
 
-pub no-plan-spec : {M : Type 1} → statement M
-no-plan-spec = tie.close (tie.spec (λ c κs. search rules) returns)
+pub no_plan_spec : {M : Type 1} → statement M
+no_plan_spec = tie.close (tie.spec
+    (λ c κs. search rules)
+    returns)

@@ -17,72 +17,72 @@ use Rattle.simulate.proofs.Endings.{stuck_ends, ends_bare}
 use Rattle.simulate.proofs.ending.Statement.{statement}
 use Rattle.simulate.proofs.ending.Tie as tie
 
-abbrev invariant-loop : tie.invariant-loop
+abbrev invariant-loop : tie.invariant-loop-rest
 invariant-loop sets n m set word out₀ rest₀ out rest = Left n set rest × Picked set rest (ends (bare n m sets) word) out
 
-abbrev decreases-loop : tie.decreases-loop
+abbrev decreases-loop : tie.decreases-loop-rest
 decreases-loop sets n m set word out₀ rest₀ out rest = rest
 
-module _ (c : tie.In-loop invariant-loop decreases-loop) where
-  some : 0 < c.before.loop.rest
-  some = omega (arith, c.loop-test.true)
+module _ (c : tie.In-loop-rest invariant-loop decreases-loop) where
+  some : 0 < c.loop-rest.rest
+  some = omega (arith, c.loop-rest-test.true)
 
-  small : count_trailing_zeros 64 c.before.loop.rest < c.before.before.before.before.args.n
-  small = least_below c.before.loop.invariant.0 some
+  small : count_trailing_zeros 64 c.loop-rest.rest < c.args.n
+  small = least_below c.loop-rest.invariant.0 some
 
-loop-holds : tie.Need-loop-init invariant-loop decreases-loop
-loop-holds c = let p = c.before.before.requires in (left_first _ _ p.0.states p.1, picked_first _ _)
+loop-holds : tie.Need-loop-rest-init invariant-loop decreases-loop
+loop-holds c = let p = c.requires in (left_first _ _ p.0.states p.1, picked_first _ _)
 
-cast-member : tie.Need-overflow-cast-member invariant-loop decreases-loop
+cast-member : tie.Need-overflow_cast-member invariant-loop decreases-loop
 cast-member c =
-    let start = c.before.before.before.before in
+    let start = c in
     omega (arith, small c, start.requires.0.states)
 
-shl-member : tie.Need-overflow-shl-member invariant-loop decreases-loop
+shl-member : tie.Need-overflow_shl-member invariant-loop decreases-loop
 shl-member c =
-    let start = c.before.before.before.before in
+    let start = c in
     omega (arith, small c, start.requires.0.states)
 
-reach-by-requires : tie.Need-reach-by-requires invariant-loop decreases-loop
+reach-by-requires : tie.Need-reach_by-requires invariant-loop decreases-loop
 reach-by-requires c κs =
-    let at-start = c.before.before.before.before in
+    let at-start = c in
     let p = at-start.requires in (p.0, omega (arith, alone_lt p.0 (small c), p.1), p.2)
 
 stuck-requires : tie.Need-stuck-requires invariant-loop decreases-loop
 stuck-requires c κs =
-    let at-start = c.before.before.before.before.before in
-    (at-start.requires.0, rw (c.reach-by.ensures 0) (set_of_lt _ _))
+    let at-start = c in
+    (at-start.requires.0, rw (c.reach_by.ensures 0) (set_of_lt _ _))
 
-sub-rest : tie.Need-overflow-sub-rest invariant-loop decreases-loop
+sub-rest : tie.Need-overflow_sub-rest invariant-loop decreases-loop
 sub-rest c = some c.before.before.before
 
-loop-less : tie.Need-loop-smaller invariant-loop decreases-loop
+loop-less : tie.Need-loop-rest-smaller invariant-loop decreases-loop
 loop-less c = strike_less _ (some c.before.before.before)
 
-loop-again : tie.Need-loop-preserved invariant-loop decreases-loop
+loop-again : tie.Need-loop-rest-preserved invariant-loop decreases-loop
 loop-again c =
-    let t = c.before.before.before in
-    let i = t.before.loop.invariant in
-    let st = t.before.before.before.before in
-    let p = some t in
-    let r = c.before.before.reach-by.ensures 0 in
-    let e = sym (c.before.stuck.ensures 0 ∙ stuck_ends st.requires.0 (small t) st.args.word.now r) in (
+    let t = c in
+    let i = t.loop-rest.invariant in
+    let st = t in
+    let p = some t.before.before.before in
+    let r = c.reach_by.ensures 0 in
+    let e = sym (c.stuck.ensures 0 ∙ stuck_ends st.requires.0 (small t.before.before.before) st.args.word.now r) in (
       left_next i.0 p,
-      ⊎_elim (λ w. rw w.1 (picked_with i.0 p (e ∙ w.0.taken) i.1))
-          (λ w. rw w.1 (picked_without i.0 p (e ∙ w.0.left) i.1))
-          c.if1.branch,
+      ⊎_elim (λ w. rw w.out-is (picked_with i.0 p (e ∙ w.if-stuck.true) i.1))
+          (λ w. rw w.out-is (picked_without i.0 p (e ∙ w.if-stuck.false) i.1))
+          c.if-stuck.branch-raw,
     )
 
 returns : tie.Need-returns invariant-loop decreases-loop
 returns c starts =
-    let start = c.before.before.before.before in
-    let i = c.before.loop.invariant in
+    let start = c in
+    let i = c.loop-rest.invariant in
     let a = start.args in
-    picked_all i.0 c.loop-test.false i.1
+    picked_all i.0 c.loop-rest-test.false i.1
     ∙ set_of_cong _ _ _ (λ s _. ap (λ (b : Bool). has a.set s && b) (ends_bare a.n a.m starts a.sets.now a.word.now s))
 
-pub ending-spec : {M : Type 1} → statement M
-ending-spec =
+pub ending_spec : {M : Type 1} → statement M
+ending_spec =
     tie.close
     (tie.spec
     invariant-loop

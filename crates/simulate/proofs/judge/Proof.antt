@@ -17,75 +17,75 @@ use Rattle.simulate.proofs.judge.Statement.{statement}
 use Rattle.simulate.proofs.judge.Tie as tie
 
 -- from a test back to the start, and to an earlier test
-abbrev start : tie.Else1 → tie.Start
+abbrev start : tie.Else-not-head → tie.Start
 start c = c.before.before.before.before.before
 
-abbrev second : tie.Else3 → tie.Else2
+abbrev second : tie.Else-state-letter → tie.Else-letter_off
 second c = c.before.before
 
-head : (c : tie.Else2) → Headed (start c.before.before).args.table.now c.before.before.before.before.head_of.result
-head c = let e = c.before.before in headed _ e.before.before.head_of.ensures e.if1.false
+head : (c : tie.Else-letter_off) → Headed (start c.before.before).args.table.now c.head_of-head.result
+head c = let e = c in headed _ e.head_of-head.ensures e.if-not-head.false
 
-on : (c : tie.Else2) → let e = c.before.before in letter_off e.before.before.head_of.result.m (start e).args.word.now ≡ false
-on c = sym c.before.letter-off.ensures ∙ c.if2.false
+on : (c : tie.Else-letter_off) → let e = c in letter_off e.head_of-head.result.m (start e.before.before).args.word.now ≡ false
+on c = sym c.letter_off.ensures ∙ c.if-letter_off.false
 
 -- the place of a state and a letter
-in_place : (c : tie.Then4) → let e = (second c.before).before.before in
-    let h = e.before.before.head_of.result in let a = (start e).args in place h.m a.state a.letter < h.n * h.m
-in_place c = let (h, g) = and_out _ _ c.if4.true in place_lt _ _ _ _ (ltb-true _ _ h) (ltb-true _ _ g)
+in_place : (c : tie.Then-state-n) → let e = (second c.before).before.before in
+    let h = e.head_of-head.result in let a = (start e).args in place h.m a.state a.letter < h.n * h.m
+in_place c = let (h, g) = and_out _ _ c.if-state-n.true in place_lt _ _ _ _ (ltb-true _ _ h) (ltb-true _ _ g)
 
 -- THE NEEDS
 
-returns : tie.Need-returns
-returns c = judge_8 _ _ _ _ (sym (head_unfit _ c.before.before.head_of.ensures) ∙ c.if1.true)
+returns : tie.Need-returns-then-not-head
+returns c = judge_8 _ _ _ _ (sym (head_unfit _ c.head_of-head.ensures) ∙ c.if-not-head.true)
 
-returns-2 : tie.Need-returns-2
+returns-2 : tie.Need-returns-then-letter_off
 returns-2 c =
-    let e = c.before.before in
-    let h = headed _ e.before.before.head_of.ensures e.if1.false in
-    judge_letter _ _ _ _ h (sym c.before.letter-off.ensures ∙ c.if2.true)
+    let e = c in
+    let h = headed _ e.head_of-head.ensures e.if-not-head.false in
+    judge_letter _ _ _ _ h (sym c.letter_off.ensures ∙ c.if-letter_off.true)
 
-sub-sets : tie.Need-overflow-sub-sets
-sub-sets c = omega (arith, (head c).ranges.room)
+sub-sets : tie.Need-slice_bounds-sets-count
+sub-sets c = omega (arith, (head c).fits.room)
 
-part-sets-start : tie.Need-slice-bounds-sets-start
-part-sets-start c = omega (arith, (head c).ranges.room)
+part-sets-start : tie.Need-slice_bounds-sets-start
+part-sets-start c = omega (arith, (head c).fits.room)
 
-judge-set-requires : tie.Need-judge-set-requires
-judge-set-requires c κs = let t = c.before.before in ((head t).fit, (head t).initial, letters_below _ _ (on t))
+judge-set-requires : tie.Need-judge_set-requires
+judge-set-requires c κs = let t = c in ((head t.before.before).fit, (head t.before.before).initial, letters_below _ _ (on t.before.before))
 
-returns-3 : tie.Need-returns-3
-returns-3 c = let t = c.before.before.before in told_initial _ _ _ _ (head t) (on t) c.before.if3.true c.judge-set.ensures
+returns-3 : tie.Need-returns-then-state-letter
+returns-3 c = let t = c in told_initial _ _ _ _ (head t.before.before.before) (on t.before.before.before) c.if-state-letter.true c.judge_set.ensures
 
-mul-set : tie.Need-overflow-mul-set
+mul-set : tie.Need-overflow_mul-set
 mul-set c = omega (arith, in_place c, (head (second c.before)).fits.room, (head (second c.before)).fit)
 
-add-set : tie.Need-overflow-add-set
+add-set : tie.Need-overflow_add-set
 add-set c = omega (arith, in_place c, (head (second c.before)).fit)
 
-mul-set-2 : tie.Need-overflow-mul-set-2
+mul-set-2 : tie.Need-offset_bounds-sets-state
 mul-set-2 c = omega (arith, in_place c, (head (second c.before)).fit)
 
-shared-slice-read-set : tie.Need-shared-slice-read-set
-shared-slice-read-set c = let t = c.before in omega (arith, in_place t, (head (second t.before)).fit.room)
+shared-slice-read-set : tie.Need-bounds-sets-state
+shared-slice-read-set c = let t = c in omega (arith, in_place t.before, (head (second t.before.before)).fit.room)
 
-judge-set-requires-2 : tie.Need-judge-set-requires-2
+judge-set-requires-2 : tie.Need-judge_set-requires-then-state-n
 judge-set-requires-2 c κs =
-    let t = c.before in
-    let e = second t.before in
-    ((head e).fit, (head e).fit.below _ (in_place t), letters_below _ _ (on e))
+    let t = c in
+    let e = second t.before.before in
+    ((head e).fit, (head e).fit.below _ (in_place t.before), letters_below _ _ (on e))
 
-returns-4 : tie.Need-returns-4
+returns-4 : tie.Need-returns-then-state-n
 returns-4 c =
-    let t = c.before.before in
-    let e = second t.before in
-    told_fork _ _ _ _ (head e) (on e) t.before.if3.false t.if4.true c.judge-set2.ensures
+    let t = c in
+    let e = second t.before.before.before in
+    told_fork _ _ _ _ (head e) (on e) t.if-state-letter.false t.if-state-n.true c.judge_set-then-state-n.ensures
 
-returns-5 : tie.Need-returns-5
-returns-5 c = judge_name _ _ _ _ (head (second c.before)) c.before.if3.false c.if4.false
+returns-5 : tie.Need-returns
+returns-5 c = judge_name _ _ _ _ (head (second c.before)) c.if-state-letter.false c.if-state-n.false
 
-pub judge-spec : {M : Type 1} → statement M
-judge-spec =
+pub judge_spec : {M : Type 1} → statement M
+judge_spec =
     tie.close
     (tie.spec
     (λ c κs. search rules)

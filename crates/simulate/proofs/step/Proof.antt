@@ -9,39 +9,39 @@ use Rattle.simulate.proofs.step.Statement.{statement}
 use Rattle.simulate.proofs.step.Tie as tie
 
 -- from the second test back to the first
-abbrev first : tie.Else2 → tie.Else1
+abbrev first : tie.Else-head-letter → tie.Else-not-head
 first c = c.before.before.before
 
-head : (c : tie.Else1) → Headed c.before.before.before.before.args.table.now c.before.before.head_of.result
-head c = headed _ c.before.before.head_of.ensures c.if1.false
+head : (c : tie.Else-not-head) → Headed c.args.table.now c.head_of-head.result
+head c = headed _ c.head_of-head.ensures c.if-not-head.false
 
-returns : tie.Need-returns
-returns c = step_8 _ _ _ (sym (head_unfit _ c.before.before.head_of.ensures) ∙ c.if1.true)
+returns : tie.Need-returns-then-not-head
+returns c = step_8 _ _ _ (sym (head_unfit _ c.head_of-head.ensures) ∙ c.if-not-head.true)
 
-sub-if2 : tie.Need-overflow-sub-if2
+sub-if2 : tie.Need-overflow_sub-head
 sub-if2 c = omega (arith, (head c.before.before).n_is, (head c.before.before).fits.some_state)
 
-shr-if2 : tie.Need-overflow-shr-if2
+shr-if2 : tie.Need-overflow_shr-set
 shr-if2 c = omega (arith, (head c.before.before).fit.states)
 
-returns-2 : tie.Need-returns-2
-returns-2 c = step_12 _ _ _ (head c.before.before.before) c.if2.true
+returns-2 : tie.Need-returns-then-head-letter
+returns-2 c = step_12 _ _ _ (head c.before.before.before) c.if-head-letter.true
 
-sub-sets : tie.Need-overflow-sub-sets
+sub-sets : tie.Need-slice_bounds-sets-count
 sub-sets c = omega (arith, (head (first c)).fits.room)
 
-part-sets-start : tie.Need-slice-bounds-sets-start
+part-sets-start : tie.Need-slice_bounds-sets-start
 part-sets-start c = omega (arith, (head (first c)).fits.room)
 
 gather-requires : tie.Need-gather-requires
 gather-requires c κs =
     let h = head (first c.before) in
-    let (x, y) = step_in _ _ _ h c.before.if2.false in (h.fit, x, y)
+    let (x, y) = step_in _ _ _ h c.if-head-letter.false in (h.fit, x, y)
 
-returns-3 : tie.Need-returns-3
+returns-3 : tie.Need-returns
 returns-3 c =
     let (led, rounds) = c.gather.ensures in
-    step_on _ _ _ (head (first c.before.before)) c.before.before.if2.false led rounds
+    step_on _ _ _ (head (first c.before.before)) c.if-head-letter.false led rounds
 
 pub step_spec : {M : Type 1} → statement M
 step_spec =

@@ -14,40 +14,40 @@ use Rattle.walks.proofs.Words.{some_of, none_of}
 use Rattle.simulate.proofs.stuck.Statement.{statement}
 use Rattle.simulate.proofs.stuck.Tie as tie
 
-abbrev invariant-loop : tie.invariant-loop
+abbrev invariant-loop : tie.invariant-loop-letter
 invariant-loop sets n m set letter₀ letter =
     (letter ≤ m) × ((starts : ℕ) → any letter (λ a. any n (step (successors n m starts sets) (has set) a)) ≡ false)
 
-abbrev decreases-loop : tie.decreases-loop
+abbrev decreases-loop : tie.decreases-loop-letter
 decreases-loop sets n m set letter₀ letter = m - letter
 
-loop-holds : tie.Need-loop-init invariant-loop decreases-loop
+loop-holds : tie.Need-loop-letter-init invariant-loop decreases-loop
 unfolding any
 loop-holds c = (omega arith, λ starts. refl)
 
-gather-requires : tie.Need-gather-requires invariant-loop decreases-loop
-gather-requires c κs = let p = c.before.before.before.requires in (p.0, p.1, c.loop-test.true)
+gather-requires : tie.Need-gather-next-requires invariant-loop decreases-loop
+gather-requires c κs = let p = c.requires in (p.0, p.1, c.loop-letter-test.true)
 
-returns : tie.Need-returns invariant-loop decreases-loop
+returns : tie.Need-returns-then-next-ne0 invariant-loop decreases-loop
 returns c starts =
-    let t = c.before.before.before in
-    sym (ap not (any_in _ _ _ t.loop-test.true (some_of _ _ (c.before.before.gather.ensures.0 starts) c.if1.true)))
+    let t = c in
+    sym (ap not (any_in _ _ _ t.loop-letter-test.true (some_of _ _ (c.gather-next.ensures.0 starts) c.if-next-ne0.true)))
 
-loop-again : tie.Need-loop-preserved invariant-loop decreases-loop
+loop-again : tie.Need-loop-letter-preserved invariant-loop decreases-loop
 unfolding any
 loop-again c =
-    let at-loop = c.before.before.before.before in
-    let i = at-loop.loop.invariant in
-    (omega arith, λ starts. rw (add-one, i.1 starts) (none_of _ _ (c.before.before.gather.ensures.0 starts) c.if1.false))
+    let at-loop = c in
+    let i = at-loop.loop-letter.invariant in
+    (omega arith, λ starts. rw (add-one, i.1 starts) (none_of _ _ (c.gather-next.ensures.0 starts) c.if-next-ne0.false))
 
-returns-2 : tie.Need-returns-2 invariant-loop decreases-loop
+returns-2 : tie.Need-returns invariant-loop decreases-loop
 returns-2 c starts =
-    let i = c.before.loop in
-    let e : i.letter ≡ c.before.before.before.args.m = omega arith in
+    let i = c.loop-letter in
+    let e : i.letter ≡ c.args.m = omega arith in
     sym (ap not (rw e at (i.invariant.1 starts)))
 
-pub stuck-spec : {M : Type 1} → statement M
-stuck-spec =
+pub stuck_spec : {M : Type 1} → statement M
+stuck_spec =
     tie.close
     (tie.spec
     invariant-loop

@@ -14,60 +14,60 @@ use Rattle.simulate.proofs.walk.Statement.{statement}
 use Rattle.simulate.proofs.walk.Tie as tie
 
 -- from a test back to the start, and to the test before it
-abbrev start : tie.Else1 → tie.Start
+abbrev start : tie.Else-not-head → tie.Start
 start c = c.before.before.before.before.before.before
 
-abbrev third : tie.Else4 → tie.Else3
+abbrev third : tie.Else-head-eq0 → tie.Else-letter_off
 third c = c.before.before
 
-abbrev second : tie.Else3 → tie.Else2
+abbrev second : tie.Else-letter_off → tie.Else-out-word
 second c = c.before.before
 
-head : (c : tie.Else1) → Headed (start c).args.table.now c.before.before.head_of.result
-head c = headed _ c.before.before.head_of.ensures c.if1.false
+head : (c : tie.Else-not-head) → Headed (start c).args.table.now c.head_of-head.result
+head c = headed _ c.head_of-head.ensures c.if-not-head.false
 
-room : (c : tie.Else2) → let a = (start c.before).args in suc (length a.word.now) ≤ length a.out.now
-room c = omega (arith, c.if2.false)
+room : (c : tie.Else-out-word) → let a = (start c.before).args in suc (length a.word.now) ≤ length a.out.now
+room c = omega (arith, c.if-out-word.false)
 
-on : (c : tie.Else3) → letter_off (second c).before.before.before.head_of.result.m (start (second c).before).args.word.now ≡ false
-on c = sym c.before.letter-off.ensures ∙ c.if3.false
+on : (c : tie.Else-letter_off) → letter_off (second c).head_of-head.result.m (start (second c).before).args.word.now ≡ false
+on c = sym c.letter_off.ensures ∙ c.if-letter_off.false
 
 -- THE NEEDS
 
-returns : tie.Need-returns
-returns c = walk_8 _ _ _ (sym (head_unfit _ c.before.before.head_of.ensures) ∙ c.if1.true)
+returns : tie.Need-returns-then-not-head
+returns c = walk_8 _ _ _ (sym (head_unfit _ c.head_of-head.ensures) ∙ c.if-not-head.true)
 
-returns-2 : tie.Need-returns-2
-returns-2 c = walk_9 _ _ _ (head c.before) c.if2.true
+returns-2 : tie.Need-returns-then-out-word
+returns-2 c = walk_9 _ _ _ (head c.before) c.if-out-word.true
 
-returns-3 : tie.Need-returns-3
-returns-3 c = let t = c.before.before in walk_12 _ _ _ (head t.before) (room t) (sym c.before.letter-off.ensures ∙ c.if3.true)
+returns-3 : tie.Need-returns-then-letter_off
+returns-3 c = let t = c in walk_12 _ _ _ (head t.before.before.before) (room t.before.before) (sym c.letter_off.ensures ∙ c.if-letter_off.true)
 
-returns-4 : tie.Need-returns-4
-returns-4 c = let t = c.before.before in let e = second t in walk_13 _ _ _ (head e.before) (room e) (on t) c.if4.true
+returns-4 : tie.Need-returns-then-head-eq0
+returns-4 c = let t = c in let e = second t.before.before in walk_13 _ _ _ (head e.before) (room e) (on t.before.before) c.if-head-eq0.true
 
-sub-sets : tie.Need-overflow-sub-sets
+sub-sets : tie.Need-slice_bounds-sets-count
 sub-sets c = omega (arith, (head (second (third c)).before).fits.room)
 
-part-sets-start : tie.Need-slice-bounds-sets-start
+part-sets-start : tie.Need-slice_bounds-sets-start
 part-sets-start c = omega (arith, (head (second (third c)).before).fits.room)
 
-trace-requires : tie.Need-trace-requires
+trace-requires : tie.Need-trace-g-requires
 trace-requires c κs =
     let t = third c.before.before in
     let h = head (second t).before in
-    (h.fit, h.initial, c.before.before.if4.false, letters_below _ _ (on t), room (second t))
+    (h.fit, h.initial, c.if-head-eq0.false, letters_below _ _ (on t), room (second t))
 
-returns-5 : tie.Need-returns-5
+returns-5 : tie.Need-returns
 returns-5 c =
-    let e = c.before.before.before.before.before in
-    let t = third e in
-    let trace = c.before.before.trace in
+    let e = c in
+    let t = third e.before.before.before.before.before in
+    let trace = c.trace-g in
     let (g, sets) = trace.ensures in
-    walk_on_lem _ _ _ (head (second t).before) (room (second t)) (on t) e.if4.false g sets trace.auto.1.1.1.1.1.0
+    walk_on_lem _ _ _ (head (second t).before) (room (second t)) (on t) e.if-head-eq0.false g sets trace.auto.1
 
-pub walk-spec : {M : Type 1} → statement M
-walk-spec =
+pub walk_spec : {M : Type 1} → statement M
+walk_spec =
     tie.close
     (tie.spec
     (λ c κs. search rules)

@@ -6,9 +6,13 @@ use Rattle.lookahead.proofs.Rivalry.{alone, matched, matched_none}
 use Rattle.lookahead.proofs.rivals.pair_set.Statement.{statement}
 use Rattle.lookahead.proofs.rivals.pair_set.Tie as tie
 
-returns-2 : tie.Need-returns-2
-returns-2 c = matched_none (alone _ c.before.before.ranges.set.fits (sym c.before.but-least.ensures ∙ c.if1.false))
+returns-2 : tie.Need-returns-else-but_least-ne0
+returns-2 c = matched_none (alone _ c.ranges.set.fits (sym c.but_least.ensures ∙ c.if-but_least-ne0.false))
 
-pub pair-set-spec : {M : Type 1} → statement M
-pair-set-spec =
-    tie.close (tie.spec (λ c κs. search rules) (λ c κs. search rules) (λ c. matched c.pair-up.ensures) returns-2)
+pub pair_set_spec : {M : Type 1} → statement M
+pair_set_spec =
+    tie.close (tie.spec
+    (λ c κs. search rules)
+    (λ c κs. search rules)
+    (λ c. matched c.pair_up.ensures)
+    returns-2)

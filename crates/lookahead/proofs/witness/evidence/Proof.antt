@@ -16,18 +16,18 @@ use Rattle.lookahead.proofs.Claims.{claimed}
 use Rattle.lookahead.proofs.witness.evidence.Statement.{statement}
 use Rattle.lookahead.proofs.witness.evidence.Tie as tie
 
-abbrev invariant-loop : tie.invariant-loop
+abbrev invariant-loop : tie.invariant-loop-seen
 invariant-loop sets n m starts reached live low high letters₀ set seen₀ x₀ y₀ at₀ i₀ letters seen x y at i =
     (at ≡ place n x y) × Trail (successors n m starts sets) live low high letters₀ letters seen x y i
 
-abbrev decreases-loop : tie.decreases-loop
+abbrev decreases-loop : tie.decreases-loop-seen
 decreases-loop sets n m starts reached live low high letters₀ set seen₀ x₀ y₀ at₀ i₀ letters seen x y at i = n * n - i
 
 -- from the loop back to the start, and from the step found to the turn
-abbrev start : tie.At-loop invariant-loop decreases-loop → tie.Start invariant-loop decreases-loop
+abbrev start : tie.At-loop-seen invariant-loop decreases-loop → tie.Start invariant-loop decreases-loop
 start c = c.before.before.before.before
 
-abbrev turn : tie.After-lead invariant-loop decreases-loop → tie.In-loop invariant-loop decreases-loop
+abbrev turn : tie.After-lead-step invariant-loop decreases-loop → tie.In-loop-seen invariant-loop decreases-loop
 turn c = c.before
 
 module _ (c : tie.Start invariant-loop decreases-loop) where
@@ -49,66 +49,66 @@ module _ (c : tie.Start invariant-loop decreases-loop) where
   begin-small : place c.args.n c.args.low c.args.high < 4096
   begin-small = omega (arith, begin, square)
 
-at_small : (c : tie.At-loop invariant-loop decreases-loop) → c.loop.at < 4096
-at_small c = omega (arith, c.loop.invariant.0, place_few (W (start c)) c.loop.invariant.1, square (start c))
+at_small : (c : tie.At-loop-seen invariant-loop decreases-loop) → c.loop-seen.at < 4096
+at_small c = omega (arith, c.loop-seen.invariant.0, place_few (W (start c)) c.loop-seen.invariant.1, square (start c))
 
-module _ (c : tie.In-loop invariant-loop decreases-loop) where
-  unseen : get_or c.before.loop.seen (place (start c.before).args.n c.before.loop.x c.before.loop.y) 0 ≡ 0
-  unseen = rw c.before.loop.invariant.0 at c.loop-test.true
+module _ (c : tie.In-loop-seen invariant-loop decreases-loop) where
+  unseen : get_or c.loop-seen.seen (place (start c.before).args.n c.loop-seen.x c.loop-seen.y) 0 ≡ 0
+  unseen = rw c.loop-seen.invariant.0 at c.loop-seen-test.true
 
-  few : c.before.loop.i < (start c.before).args.n * (start c.before).args.n
-  few = trail_few (W (start c.before)) c.before.loop.invariant.1 unseen
+  few : c.loop-seen.i < (start c.before).args.n * (start c.before).args.n
+  few = trail_few (W (start c.before)) c.loop-seen.invariant.1 unseen
 
-  i-small : c.before.loop.i < 4096
+  i-small : c.loop-seen.i < 4096
   i-small = omega (arith, few, square (start c.before))
 
-  room : c.before.loop.i < length c.before.loop.letters
-  room = omega (arith, few, c.before.loop.invariant.1.long, (start c.before).pre.1.2)
+  room : c.loop-seen.i < length c.loop-seen.letters
+  room = omega (arith, few, c.loop-seen.invariant.1.long, (start c.before).requires.1.2)
 
 -- the search has found where the pair is led on to
-module _ (c : tie.After-lead invariant-loop decreases-loop) where
+module _ (c : tie.After-lead-step invariant-loop decreases-loop) where
   led :
       let a = (start (turn c).before).args in
-      let l = (turn c).before.loop in
-      let r = c.lead.result in
+      let l = (turn c).loop-seen in
+      let r = c.lead-step.result in
       Leads (successors a.n a.m 0 a.sets.now) a.live.now l.x l.y r.letter r.first r.second
   led =
-      let p = (start (turn c).before).pre in
-      let T = (turn c).before.loop.invariant.1 in
-      c.lead.ensures.1 (c.lead.ensures.0 ∙ lasting_on _ _ _ p.1.0 p.0.lasting _ _ T.x_lt T.y_lt T.lives)
+      let p = (start (turn c).before).requires in
+      let T = (turn c).loop-seen.invariant.1 in
+      c.lead-step.ensures.1 (c.lead-step.ensures.0 ∙ lasting_on _ _ _ p.1.0 p.0.lasting _ _ T.x_lt T.y_lt T.lives)
 
-  next_small : place (start (turn c).before).args.n c.lead.result.first c.lead.result.second < 4096
+  next_small : place (start (turn c).before).args.n c.lead-step.result.first c.lead-step.result.second < 4096
   next_small =
       let s = start (turn c).before in
       omega (arith, place_lt _ _ _ _ ((W s).to_lt _ _ _ led.first) ((W s).to_lt _ _ _ led.second), square s)
 
-module _ (c : tie.After-loop invariant-loop decreases-loop) where
+module _ (c : tie.After-loop-seen invariant-loop decreases-loop) where
   ended :
-      let l = c.before.loop in
+      let l = c.loop-seen in
       let a = (start c.before).args in
       let stem = get_or l.seen l.at 0 - 1 in
       let S = successors a.n a.m a.starts a.sets.now in
       (stem < l.i) × Ringed S a.low a.high stem (l.i - stem) a.letters.now l.letters
   ended =
-      let i = c.before.loop.invariant in
-      trail_end (W (start c.before)) i.1 _ (rw (← i.0) (omega (arith, c.loop-test.false))) (start c.before).pre.1.2
+      let i = c.loop-seen.invariant in
+      trail_end (W (start c.before)) i.1 _ (rw (← i.0) (omega (arith, c.loop-seen-test.false))) (start c.before).requires.1.2
 
   -- states and lengths fit
   few-states : ((start c.before).args.low < 64) × ((start c.before).args.high < 64)
-  few-states = let s = start c.before in (omega (arith, low-lt s, s.pre.1.0.states), omega (arith, high_lt s, s.pre.1.0.states))
+  few-states = let s = start c.before in (omega (arith, low-lt s, s.requires.1.0.states), omega (arith, high_lt s, s.requires.1.0.states))
 
-  few-letters : c.before.loop.i ≤ 4096
+  few-letters : c.loop-seen.i ≤ 4096
   few-letters = omega (arith, ended.0, ended.1.short, square (start c.before))
 
-cast-letters : tie.Need-overflow-cast-letters invariant-loop decreases-loop
+cast-letters : tie.Need-overflow_cast-letters invariant-loop decreases-loop
 cast-letters c =
     let s = start c.before.before.before in
-    omega (arith, (W s).letter_lt _ _ _ (led c.before).first, s.pre.1.0.letters)
+    omega (arith, (W s).letter_lt _ _ _ (led c.before).first, s.requires.1.0.letters)
 
-loop-again : tie.Need-loop-preserved invariant-loop decreases-loop
+loop-again : tie.Need-loop-seen-preserved invariant-loop decreases-loop
 loop-again c =
     let t = turn c.before in
-    let i = t.before.loop.inv in
+    let i = t.loop-seen.invariant in
     let k = led c.before in
     let next = trail_next (W (start t.before)) i.1 (unseen t) _ _ _ k.first k.second (room t) k.lives in
     (refl, rw i.0 next)
@@ -116,27 +116,27 @@ loop-again c =
 returns : tie.Need-returns invariant-loop decreases-loop
 returns c =
     let k = (ended c).1 in
-    let p = (start c.before).pre in
-    let named = c.before.before.critical-set.ensures in
-    (claimed p.0.order named k (omega (arith, p.1.2, c.before.loop.invariant.1.long)), k.kept)
+    let p = (start c.before).requires in
+    let named = c.critical_set-set.ensures in
+    (claimed p.0.order named k (omega (arith, p.1.2, c.loop-seen.invariant.1.long)), k.kept)
 
-pub evidence-spec : {M : Type 1} → statement M
-evidence-spec =
+pub evidence_spec : {M : Type 1} → statement M
+evidence_spec =
     tie.close
     (tie.spec
     invariant-loop
     decreases-loop
-    (λ c κs. let p = c.before.before.requires in (p.1.0, p.1.1, p.0.together, p.1.3))
+    (λ c κs. let p = c.requires in (p.1.0, p.1.1, p.0.together, p.1.3))
     (λ c. omega (arith, begin-small c.before.before.before))
     (λ c. omega (arith, begin-small c.before.before.before))
-    (λ c. let s = c.before.before.before in (refl, trail_first (W s) 4096 (square s) (low-lt s) (high_lt s) s.requires.0.lasts))
+    (λ c. let s = c in (refl, trail_first (W s.before.before.before) 4096 (square s.before.before.before) (low-lt s.before.before.before) (high_lt s.before.before.before) s.requires.0.lasts))
     (λ c. omega (arith, at_small c))
     (λ c. at_small c)
     (λ c. omega (arith, i-small c))
     (λ c. omega (arith, i-small c))
     (λ c. omega (arith, at_small c.before))
     (λ c. at_small c.before)
-    (λ c κs. let T = c.before.loop.invariant.1 in ((start c.before).pre.1.0, T.x_lt, T.y_lt))
+    (λ c κs. let T = c.loop-seen.invariant.1 in ((start c.before).requires.1.0, T.x_lt, T.y_lt))
     cast-letters
     (λ c. room c.before.before)
     (λ c. omega (arith, next_small c.before))
@@ -147,11 +147,11 @@ evidence-spec =
     (λ c. omega (arith, at_small c.before))
     (λ c. at_small c.before)
     (λ c. omega (arith, (ended c).0, few-letters c))
-    (λ c. omega (arith, c.loop-test.false))
+    (λ c. omega (arith, c.loop-seen-test.false))
     (λ c. omega (arith, (ended c).0))
     (λ c. omega (arith, (few-states c).0))
     (λ c. omega (arith, (few-states c).1))
     (λ c. omega (arith, (ended c).0, few-letters c))
     (λ c. omega (arith, few-letters c))
-    (λ c. c.before.loop.invariant.1.long)
+    (λ c. c.loop-seen.invariant.1.long)
     returns)
