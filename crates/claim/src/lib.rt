@@ -1,4 +1,6 @@
 // The check of a claim that a plan has no look-ahead: plan bytes and any claim, true, false or nonsense.
+#![tactic(auto)]
+
 ghost use Rattle.std.specs.Prelude.{ℕ, ◌^◌, ◌<◌};
 ghost use Rattle.semiautomata.specs.Successors.{successors, Fit};
 ghost use Rattle.walks.specs.Walking.{Letters};

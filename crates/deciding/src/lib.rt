@@ -16,7 +16,7 @@ ghost use Rattle.deciding.specs.inner.Parts.{base_set, ReadOn, due_after};
 use records::HELD_FROM;
 
 // What opening and a letter fed answer: a refusal, a resolved position and its state, or that none was resolved.
-#[derive(Drop)]
+#[derive(Clone, Copy)]
 pub enum Answer {
     Refused(u8),
     Resolved { position: u32, state: u8 },

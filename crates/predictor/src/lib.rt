@@ -1,5 +1,7 @@
 // Walks letter by letter (document 01, Walks): a record of bytes that is opened, fed and finished on a prepared table.
 // A call is decided first, by what it reads (crate deciding); only then is the record written, and a refused call writes nothing.
+#![tactic(auto)]
+
 ghost use Rattle.std.specs.Prelude.{◌≡◌, ◌+◌, ◌≤◌, length};
 ghost use Rattle.records.specs.Bytes.{held_from};
 ghost use Rattle.deciding.specs.Replies.{said};

@@ -1,8 +1,8 @@
 -- The sets of a whole walk: what a walk leaves in a buffer, and that these are the possible states at each position.
 -- Assumes nothing.
 use Prim.Native.Nat.{ℕ, suc, ◌≤◌}
-use mathlib.Core.Path.{◌≡◌, sym, ◌∙◌}
-use mathlib.Core.List.{List, ◌++◌}
+use mathlib.Core.Path.{◌≡◌, sym, ◌∙◌, ap}
+use mathlib.Core.List.{List, ◌++◌, map}
 use native.Mathlib.Omega.{arith}
 use lib.ListN.{length, get_or, take, drop, take-append-drop, get_or-append}
 use lib.Seq.{length-take-le, get_or-take}
@@ -11,6 +11,7 @@ use Rattle.semiautomata.specs.Semiautomaton.{Semiautomaton, Within}
 use Rattle.semiautomata.specs.Walks.{Longest, Possible, PossibleAt, possible, longest}
 use Rattle.semiautomata.proofs.Computed.{possible_in, possible_out, longest_unique}
 use Rattle.semiautomata.proofs.Positions.{possible_lt}
+use Rattle.semiautomata.specs.Lists.{range}
 use Rattle.table.proofs.Listed.{listed_length, listed_at, listed_are}
 use Rattle.walks.specs.Walking.{Written}
 use Rattle.walks.proofs.Longest.{longest_le}
@@ -31,7 +32,8 @@ module _ (S : Semiautomaton) (w : List ℕ) where
       let front = listed_are (λ i. set_of S.n (possible S S.initial (take g w) i)) (suc g) (take (suc g) out)
       (length-take-le (suc g) out h) (λ i l. get_or-take (suc g) out i 0 l ∙ t.sets i (rw long (omega arith))) in
       let rest : drop (suc g) out ≡ drop (suc g) old = rw long at t.kept in
-      sym (take-append-drop (suc g) out) ∙ rw (traced, ← e) (λ i. front i ++ rest i)
+      sym (take-append-drop (suc g) out) ∙ (λ i. front i ++ rest i)
+      ∙ ap (λ (z : ℕ). map (λ i. set_of S.n (possible S S.initial (take z w) i)) (range 0 (suc z)) ++ drop (suc g) old) e
 
   module _ (W : Within S) where
     pub possible_stands : (g : ℕ) → Longest S w g → (i : ℕ) → i ≤ g → {set : ℕ} → set ≡ set_of S.n (possible S S.initial (take g w) i)

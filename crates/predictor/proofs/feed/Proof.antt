@@ -9,45 +9,45 @@ use Rattle.predictor.proofs.feed.Statement.{statement}
 use Rattle.predictor.proofs.feed.Tie as tie
 
 -- from the first test back to the start
-abbrev start : tie.Else1 → tie.Start
+abbrev start : tie.Else-not-head → tie.Start
 start c = c.before.before.before.before.before
 
-head : (c : tie.Else1) → Headed (start c).args.table.now c.before.before.head_of.result
-head c = headed _ c.before.before.head_of.ensures c.if1.false
+head : (c : tie.Else-not-head) → Headed (start c).args.table.now c.head_of-head.result
+head c = headed _ c.head_of-head.ensures c.if-not-head.false
 
 -- THE NEEDS
 
-returns : tie.Need-returns
-returns c = feed_8 _ _ _ (sym (head_unfit _ c.before.before.head_of.ensures) ∙ c.if1.true)
+returns : tie.Need-returns-then-not-head
+returns c = feed_8 _ _ _ (sym (head_unfit _ c.head_of-head.ensures) ∙ c.if-not-head.true)
 
-add-if2 : tie.Need-overflow-add-if2
+add-if2 : tie.Need-overflow_add-k
 add-if2 c = omega (arith, (head c).lookahead)
 
-returns-2 : tie.Need-returns-2
-returns-2 c = feed_9 _ _ (head c.before) _ c.if2.true
+returns-2 : tie.Need-returns-then-rec-k
+returns-2 c = feed_9 _ _ (head c.before) _ c.if-rec-k.true
 
-sub-sets : tie.Need-overflow-sub-sets
+sub-sets : tie.Need-slice_bounds-sets-count
 sub-sets c = omega (arith, (head c.before).fits.room)
 
-part-sets-start : tie.Need-slice-bounds-sets-start
+part-sets-start : tie.Need-slice_bounds-sets-start
 part-sets-start c = omega (arith, (head c.before).fits.room)
 
-decide-requires : tie.Need-decide-requires
-decide-requires c κs = let e = c.before.before in let h = head e.before in (h.fit, h.initial, e.if2.false, h.lookahead)
+decide-requires : tie.Need-decide-answer-requires
+decide-requires c κs = let e = c in let h = head e.before.before in (h.fit, h.initial, e.if-rec-k.false, h.lookahead)
 
 apply-requires : tie.Need-apply-requires
 apply-requires c κs =
-    let e = c.before.before.before.before in
-    (e.if2.false, feed_ready _ _ (head e.before) _ c.before.decide.ensures)
+    let e = c in
+    (e.if-rec-k.false, feed_ready _ _ (head e.before.before.before.before) _ c.decide-answer.ensures)
 
-returns-3 : tie.Need-returns-3
+returns-3 : tie.Need-returns
 returns-3 c =
-    let decided = c.before.before.before.before in
-    let e = decided.before.before.before in
-    feed_on _ _ (head e.before) e.if2.false decided.decide.result _ decided.decide.ensures c.before.before.apply.ensures
+    let decided = c in
+    let e = decided in
+    feed_on _ _ (head e.before.before.before.before.before.before.before) e.if-rec-k.false decided.decide-answer.result _ decided.decide-answer.ensures c.apply.ensures
 
-pub feed-spec : {M : Type 1} → statement M
-feed-spec =
+pub feed_spec : {M : Type 1} → statement M
+feed_spec =
     tie.close
     (tie.spec
     (λ c κs. search rules)
