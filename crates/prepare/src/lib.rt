@@ -1,5 +1,7 @@
 // From plan bytes to a look-ahead: preparing and the count call.
 // The look-ahead itself is found by crate lookahead, from successor sets; here plans are loaded, and buffers judged.
+#![tactic(auto)]
+
 ghost use Rattle.semiautomata.specs.Successors.{successors};
 ghost use Rattle.plan.specs.Bytes.{asked};
 ghost use Rattle.prepare.specs.Preparing.{Prepares, CountsTo};

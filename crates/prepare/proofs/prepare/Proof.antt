@@ -12,42 +12,42 @@ use Rattle.prepare.proofs.Answers.{is_held, prepares_asked}
 use Rattle.prepare.proofs.prepare.Statement.{statement}
 use Rattle.prepare.proofs.prepare.Tie as tie
 
-abbrev start : tie.After-load → tie.Start
+abbrev start : tie.After-load-loaded → tie.Start
 start c = c.before.before.before.before.before
 
-abbrev A : tie.After-load → Asked
+abbrev A : tie.After-load-loaded → Asked
 A c = asked (start c).args.plan.now (start c).args.party
 
-abbrev P : (c : tie.After-load) → Proper (A c)
+abbrev P : (c : tie.After-load-loaded) → Proper (A c)
 P c = asked_proper (start c).args.plan.now (start c).args.party
 
-load-requires : tie.Need-load-requires
+load-requires : tie.Need-load-loaded-requires
 load-requires c κs = blank _
 
-slice-aggregate-prepare-loaded : tie.Need-slice-aggregate-prepare-loaded
-slice-aggregate-prepare-loaded c = let l = c.before.before in sym (rw l.loaded2.given.1 at l.before.before.load.ensures).3
+slice-aggregate-prepare-loaded : tie.Need-slice_bounds-prepare_loaded-end
+slice-aggregate-prepare-loaded c = let l = c in sym (rw l.in-Plan.is at l.load-loaded.ensures).3
 
-prepare-loaded-requires : tie.Need-prepare-loaded-requires
+prepare-loaded-requires : tie.Need-prepare_loaded-requires
 prepare-loaded-requires c κs =
-    let l = c.before.before.before.before in
-    let (w, h, _, _) = rw l.loaded2.given.1 at l.before.before.load.ensures in
-    is_held (A l.before.before) (P l.before.before) w h
+    let l = c in
+    let (w, h, _, _) = rw l.in-Plan.is at l.load-loaded.ensures in
+    is_held (A l.before.before.before.before) (P l.before.before.before.before) w h
 
-returns : tie.Need-returns
+returns : tie.Need-returns-in-Refused
 returns c =
-    let l = c.before.before.before in
-    let (e, n) = rw c.before.loaded.given.1 at l.load.ensures in
-    prepare_refused (A l) (P l) (unread (A l) (P l) e n _) n
+    let l = c in
+    let (e, n) = rw c.in-Refused.is at l.load-loaded.ensures in
+    prepare_refused (A l.before) (P l.before) (unread (A l.before) (P l.before) e n _) n
 
-returns-2 : tie.Need-returns-2
+returns-2 : tie.Need-returns-in-Plan
 returns-2 c =
-    let d = c.before.before.before.before in
-    let l = d.before.before.before.before.before in
-    let (w, h, _, _) = rw l.loaded2.given.1 at l.before.before.load.ensures in
-    prepares_asked (A l.before.before) (P l.before.before) w h d.prepare-loaded.result _ _ _ _ d.prepare-loaded.ensures
+    let d = c in
+    let l = d in
+    let (w, h, _, _) = rw l.in-Plan.is at l.load-loaded.ensures in
+    prepares_asked (A l.before.before.before.before.before.before.before.before.before) (P l.before.before.before.before.before.before.before.before.before) w h d.prepare_loaded.result _ _ _ _ d.prepare_loaded.ensures
 
-pub prepare-spec : {M : Type 1} → statement M
-prepare-spec =
+pub prepare_spec : {M : Type 1} → statement M
+prepare_spec =
     tie.close
     (tie.spec
     load-requires

@@ -15,47 +15,47 @@ use Rattle.prepare.proofs.prepare_loaded.Tie as tie
 few : (s : tie.Start) → s.args.n * s.args.m ≤ 2048
 few s = size_le s.requires.fit.states s.requires.fit.letters
 
-mul-if1 : tie.Need-overflow-mul-if1
+mul-if1 : tie.Need-overflow_mul-n
 mul-if1 c = omega (arith, few c.before.before.before)
 
-add-if1 : tie.Need-overflow-add-if1
+add-if1 : tie.Need-overflow_add-n
 add-if1 c = omega (arith, few c.before.before.before)
 
-returns : tie.Need-returns
+returns : tie.Need-returns-then-table-n
 returns c =
-    let s = c.before.before.before.before in
-    prepare_refused _ (held_proper s.requires) (table_short _ (held_proper s.requires) (held_passes s.requires) _ c.if1.true)
+    let s = c in
+    prepare_refused _ (held_proper s.requires) (table_short _ (held_proper s.requires) (held_passes s.requires) _ c.if-table-n.true)
     (λ e. omega arith)
 
 write-requires : tie.Need-write-requires
 write-requires c κs =
-    let n = c.before.before.before.before.before.before in
-    let held = n.before.before.before.before.before.before.requires in
-    (held.fit, held.starts_fit, n.before.before.if1.false)
+    let n = c in
+    let held = n.requires in
+    (held.fit, held.starts_fit, n.if-table-n.false)
 
-returns-2 : tie.Need-returns-2
+returns-2 : tie.Need-returns-in-Ready
 returns-2 c =
-    let w = c.before.before in
-    let l = w.before.before.before in
-    let n = l.before.before.before.before in
-    let room = n.before.before.if1.false in
-    let (p, e) = rw l.counted.given.1 at n.count-loaded.ensures in
+    let w = c in
+    let l = w in
+    let n = l in
+    let room = n.if-table-n.false in
+    let (p, e) = rw l.in-Ready.is at n.count_loaded-counted.ensures in
     (rw (le-ltb _ _ room) p, w.write.ensures, e)
 
-returns-3 : tie.Need-returns-3
+returns-3 : tie.Need-returns-in-Refused
 returns-3 c =
-    let n = c.before.before.before.before.before in
-    let (p, e) = rw c.before.counted2.given.1 at n.count-loaded.ensures in
-    (rw (le-ltb _ _ n.before.before.if1.false) p, refl, e)
+    let n = c in
+    let (p, e) = rw c.in-Refused.is at n.count_loaded-counted.ensures in
+    (rw (le-ltb _ _ n.if-table-n.false) p, refl, e)
 
-returns-4 : tie.Need-returns-4
+returns-4 : tie.Need-returns-in-Unpredictable
 returns-4 c =
-    let n = c.before.before.before.before.before in
-    let (p, e) = rw c.before.counted3.given.1 at n.count-loaded.ensures in
-    (rw (le-ltb _ _ n.before.before.if1.false) p, refl, e)
+    let n = c in
+    let (p, e) = rw c.in-Unpredictable.is at n.count_loaded-counted.ensures in
+    (rw (le-ltb _ _ n.if-table-n.false) p, refl, e)
 
-pub prepare-loaded-spec : {M : Type 1} → statement M
-prepare-loaded-spec =
+pub prepare_loaded_spec : {M : Type 1} → statement M
+prepare_loaded_spec =
     tie.close
     (tie.spec
     mul-if1

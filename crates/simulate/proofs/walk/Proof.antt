@@ -64,7 +64,7 @@ returns-5 c =
     let t = third e.before.before.before.before.before in
     let trace = c.trace-g in
     let (g, sets) = trace.ensures in
-    walk_on_lem _ _ _ (head (second t).before) (room (second t)) (on t) e.if-head-eq0.false g sets trace.auto.1
+    walk_on_lem _ _ _ (head (second t).before) (room (second t)) (on t) e.if-head-eq0.false g sets trace.auto.out
 
 pub walk_spec : {M : Type 1} → statement M
 walk_spec =
