@@ -123,7 +123,7 @@ module _ (n m starts : ℕ) (sets : List ℕ) (F : Fit n m sets) (H : starts < 2
     | yes z ↦ rw (k.idle (inr z)) (says_idle (λ (_, (s, e)). false≢true (sym (has_empty s) ∙ rw z at e)))
     | no ne ↦
         let (s, _, e) = any_out n _ (some_member n starts (omega (arith, ne)) H) in
-        says_measured initial (tt, (s, e)) (k.decreases refl ne)
+        says_measured initial (tt, (s, e)) (k.measured refl ne)
   ]
 
   pub says_fork : {reached : ℕ} → reached ≡ set_of n (accessible S) → (q a : ℕ) → q < n → a < m → {v : ℕ}
@@ -137,6 +137,6 @@ module _ (n m starts : ℕ) (sets : List ℕ) (F : Fit n m sets) (H : starts < 2
           let (s, _, e) = any_out n _ (some_member n (set_at m sets q a) (omega (arith, ne)) (place_fits F q a h g)) in
           let led : S.edge q a s ≡ true = edge_is n m starts sets q a s h g ∙ e in
           says_measured (fork q a) ((reached_out S R q on, (s, led)), (s, led))
-          (longest_same (λ s. edge_is n m starts sets q a s h g) (k.decreases on ne))
+          (longest_same (λ s. edge_is n m starts sets q a s h g) (k.measured on ne))
     ]
   ]

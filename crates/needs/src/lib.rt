@@ -1,6 +1,8 @@
 // The need of each critical set by itself (W-205): for how long its states share words. Which pairs of states are rivals, and which
 // states walks reach, comes from crate lookahead, how long rivals live from crate pairs, as the look-ahead does; a set's need is the
 // longest that two of its states live.
+#![tactic(auto)]
+
 ghost use Rattle.std.specs.Prelude.{◌&&◌, ◌+◌, ◌*◌, ◌^◌, ◌≤◌, ◌<◌, eqb, length};
 ghost use Rattle.bitset.specs.Numbers.{has};
 ghost use Rattle.semiautomata.specs.Successors.{successors, Fit};

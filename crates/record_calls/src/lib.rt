@@ -1,5 +1,7 @@
 // The calls on a walk's record for C, over plain numbers and lent slices: opening, a letter fed and ending. Where there is no room for the
 // position of a resolution, the call is refused with 9 before anything is written.
+#![tactic(auto)]
+
 ghost use Rattle.std.specs.Prelude.{◌≤◌, length};
 ghost use Rattle.numbers.specs.Numbers.{Passed};
 ghost use Rattle.record_calls.specs.Promises.{of_answer, PassesOpening, PassesLetter, PassesEnding};

@@ -1,5 +1,7 @@
 // The calls on a prepared table for C, over plain numbers and lent slices: one step, whole walks and verdicts. Where a slice for further
 // values has too few places for the most that a call may have to put there, the call is refused with 9 before anything is written.
+#![tactic(auto)]
+
 ghost use Rattle.std.specs.Prelude.{◌≡◌, [], ◌∷◌};
 ghost use Rattle.table.specs.Table.{table_check};
 ghost use Rattle.numbers.specs.Numbers.{no_room};

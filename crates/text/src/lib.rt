@@ -1,5 +1,7 @@
 // The report as bytes (document 01, The report), a part at a time: `begin` prints the first lines of a plan, `feed` those of some letters,
 // `finish` the open lines. They work in lent buffers of fixed size, so an input of any length can be streamed through them.
+#![tactic(auto)]
+
 ghost use Rattle.std.specs.Prelude.{◌≡◌, false, ◌+◌, ◌-◌, ◌*◌, ◌^◌, ◌≤◌, ◌<◌, length};
 ghost use Rattle.semiautomata.specs.Predictability.{Lookahead};
 ghost use Rattle.plan.specs.Bytes.{meaning, WellFormed};

@@ -13,62 +13,62 @@ use Rattle.needs.proofs.Entering.{forks_first, forks_row, forks_next, forks_rows
 use Rattle.needs.proofs.enter_forks.Statement.{statement}
 use Rattle.needs.proofs.enter_forks.Tie as tie
 
-abbrev Inv₂ : tie.invariant-loop2
+abbrev Inv₂ : tie.invariant-loop-a
 Inv₂ needs₀ lifetimes sets n m reached q counts a₀ rules a =
     (a ≤ m) × ForksEntered lifetimes m sets reached (q * m) (place m q a) needs₀ rules
 
-abbrev μ₂ : tie.decreases-loop2
+abbrev μ₂ : tie.decreases-loop-a
 μ₂ needs₀ lifetimes sets n m reached q counts a₀ rules a = m - a
 
-abbrev Inv₁ : tie.invariant-loop
+abbrev Inv₁ : tie.invariant-loop-q
 Inv₁ needs₀ lifetimes sets n m reached q₀ rules q = (q ≤ n) × ForksEntered lifetimes m sets reached 0 (q * m) needs₀ rules
 
-abbrev μ₁ : tie.decreases-loop
+abbrev μ₁ : tie.decreases-loop-q
 μ₁ needs₀ lifetimes sets n m reached q₀ rules q = n - q
 
-abbrev start : tie.In-loop Inv₂ μ₂ Inv₁ μ₁ → tie.Start Inv₂ μ₂ Inv₁ μ₁
+abbrev start : tie.In-loop-q Inv₂ μ₂ Inv₁ μ₁ → tie.Start Inv₂ μ₂ Inv₁ μ₁
 start c = c.before.before.before.before
 
-abbrev turn : tie.In-loop2 Inv₂ μ₂ Inv₁ μ₁ → tie.In-loop Inv₂ μ₂ Inv₁ μ₁
+abbrev turn : tie.In-loop-a Inv₂ μ₂ Inv₁ μ₁ → tie.In-loop-q Inv₂ μ₂ Inv₁ μ₁
 turn c = c.before.before.before
 
-state : (c : tie.In-loop Inv₂ μ₂ Inv₁ μ₁) → c.before.loop.q < 64
+state : (c : tie.In-loop-q Inv₂ μ₂ Inv₁ μ₁) → c.loop-q.q < 64
 state c = omega (arith, (start c).requires.0.states)
 
-module _ (c : tie.In-loop2 Inv₂ μ₂ Inv₁ μ₁) where
-  small : place (start (turn c)).args.m (turn c).before.loop.q c.before.loop2.a < 2048
-  small = let f = (start (turn c)).pre.0 in place_small f.states f.letters _ _ (turn c).loop-test.true c.loop2-test.true
+module _ (c : tie.In-loop-a Inv₂ μ₂ Inv₁ μ₁) where
+  small : place (start (turn c)).args.m (turn c).loop-q.q c.loop-a.a < 2048
+  small = let f = (start (turn c)).requires.0 in place_small f.states f.letters _ _ (turn c).loop-q-test.true c.loop-a-test.true
 
-  within : place (start (turn c)).args.m (turn c).before.loop.q c.before.loop2.a < length (start (turn c)).args.sets.now
-  within = place_in (start (turn c)).pre.0 _ _ (turn c).loop-test.true c.loop2-test.true
+  within : place (start (turn c)).args.m (turn c).loop-q.q c.loop-a.a < length (start (turn c)).args.sets.now
+  within = place_in (start (turn c)).requires.0 _ _ (turn c).loop-q-test.true c.loop-a-test.true
 
-  room : place (start (turn c)).args.m (turn c).before.loop.q c.before.loop2.a + 1 < length c.before.loop2.needs
+  room : place (start (turn c)).args.m (turn c).loop-q.q c.loop-a.a + 1 < length c.loop-a.needs
   room =
       omega (
         arith,
-        place_lt _ _ _ _ (turn c).loop-test.true c.loop2-test.true,
-        c.before.loop2.invariant.1.long,
-        (turn c).before.loop.invariant.1.long,
-        (start (turn c)).pre.1,
+        place_lt _ _ _ _ (turn c).loop-q-test.true c.loop-a-test.true,
+        c.loop-a.invariant.1.long,
+        (turn c).loop-q.invariant.1.long,
+        (start (turn c)).requires.1,
       )
 
-loop2-again : tie.Need-loop2-preserved Inv₂ μ₂ Inv₁ μ₁
+loop2-again : tie.Need-loop-a-preserved Inv₂ μ₂ Inv₁ μ₁
 loop2-again c =
-    let t = c.before.before in
-    let (_, k) = t.before.loop2.invariant in (
+    let t = c in
+    let (_, k) = t.loop-a.invariant in (
       omega arith,
-      forks_next _ _ _ (omega arith) t.loop2-test.true (room t) (rw t.before.before.contains.ensures at c.entry.ensures) k,
+      forks_next _ _ _ (omega arith) t.loop-a-test.true (room t.before.before) (rw t.contains-counts.ensures at c.entry.ensures) k,
     )
 
 -- every letter of q is passed
-loop-again : tie.Need-loop-preserved Inv₂ μ₂ Inv₁ μ₁
+loop-again : tie.Need-loop-q-preserved Inv₂ μ₂ Inv₁ μ₁
 loop-again c =
-    let l = c.before.loop2 in
+    let l = c.loop-a in
     let e : l.a ≡ (start c.before.before.before).args.m = omega arith in
-    (omega arith, forks_rows _ c.before.before.before.before.loop.invariant.1 (rw e at l.invariant.1))
+    (omega arith, forks_rows _ c.loop-q.invariant.1 (rw e at l.invariant.1))
 
-pub enter-forks-spec : {M : Type 1} → statement M
-enter-forks-spec =
+pub enter_forks_spec : {M : Type 1} → statement M
+enter_forks_spec =
     tie.close
     (tie.spec
     Inv₂
@@ -95,5 +95,5 @@ enter-forks-spec =
     (λ c. omega arith)
     (λ c. omega arith)
     loop-again
-    (λ c. c.before.loop.invariant.1.long)
-    (λ c. let e : c.before.loop.q ≡ c.before.before.before.before.args.n = omega arith in rw e at c.before.loop.invariant.1))
+    (λ c. c.loop-q.invariant.1.long)
+    (λ c. let e : c.loop-q.q ≡ c.args.n = omega arith in rw e at c.loop-q.invariant.1))

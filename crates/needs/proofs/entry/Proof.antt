@@ -10,5 +10,5 @@ entry_spec =
     tie.close
     (tie.spec
     (λ c κs. search rules)
-    (λ c. entered_measured c.before.if1.true c.longest.ensures)
-    (λ c. entered_idle c.if1.false))
+    (λ c. entered_measured c.if-counts-set.true c.longest.ensures)
+    (λ c. entered_idle c.if-counts-set.false))

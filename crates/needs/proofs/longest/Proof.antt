@@ -17,41 +17,41 @@ use Rattle.needs.proofs.Lives.{lower, set_first, set_next, set_all}
 use Rattle.needs.proofs.longest.Statement.{statement}
 use Rattle.needs.proofs.longest.Tie as tie
 
-abbrev invariant-loop : tie.invariant-loop
+abbrev invariant-loop : tie.invariant-loop-rest
 invariant-loop lifetimes set longest₀ rest₀ longest rest = Left 64 set rest × (longest ≤ endless) × Most lifetimes (lower set rest) 0 longest
 
-abbrev decreases-loop : tie.decreases-loop
+abbrev decreases-loop : tie.decreases-loop-rest
 decreases-loop lifetimes set longest₀ rest₀ longest rest = rest
 
-some : (c : tie.In-loop invariant-loop decreases-loop) → 0 < c.before.loop.rest
+some : (c : tie.In-loop-rest invariant-loop decreases-loop) → 0 < c.loop-rest.rest
 some c =
-    let e = eqb-false c.before.loop.rest 0 (not-true _ (and_out (not (eqb c.before.loop.rest 0)) _ c.loop-test.true).0) in
+    let e = eqb-false c.loop-rest.rest 0 (not-true _ (and_out (not (eqb c.loop-rest.rest 0)) _ c.loop-rest-test.true).0) in
     omega (arith, e)
 
-below : (c : tie.In-loop invariant-loop decreases-loop) → count_trailing_zeros 64 c.before.loop.rest < 64
-below c = least_below c.before.loop.invariant.0 (some c)
+below : (c : tie.In-loop-rest invariant-loop decreases-loop) → count_trailing_zeros 64 c.loop-rest.rest < 64
+below c = least_below c.loop-rest.invariant.0 (some c)
 
 -- none is left, or a pair lives for ever
-ended : (c : tie.After-loop invariant-loop decreases-loop) → (c.before.loop.rest ≡ 0) ⊎ (c.before.loop.longest ≡ endless)
+ended : (c : tie.After-loop-rest invariant-loop decreases-loop) → (c.loop-rest.rest ≡ 0) ⊎ (c.loop-rest.longest ≡ endless)
 ended c =
-    let l = c.before.loop in
+    let l = c.loop-rest in
     elim (decided (eqb l.rest 0)) [
       | inl e ↦ inl (eqb-true l.rest 0 e)
-      | inr e ↦ inr (eqb-true l.longest endless (not-false _ (rw e at c.loop-test.false)))
+      | inr e ↦ inr (eqb-true l.longest endless (not-false _ (rw e at c.loop-rest-test.false)))
     ]
 
-loop-again : tie.Need-loop-preserved invariant-loop decreases-loop
+loop-again : tie.Need-loop-rest-preserved invariant-loop decreases-loop
 loop-again c =
-    let k = c.before in
-    let t = k.before in
-    let (l, _, most) = t.before.loop.invariant in (
-      left_next l (some t),
-      omega (arith, c.longest-with.type-inv),
-      set_next _ _ l most (some t) (below t) (rw k.mask.ensures at c.longest-with.ensures),
+    let k = c in
+    let t = k in
+    let (l, _, most) = t.loop-rest.invariant in (
+      left_next l (some t.before.before),
+      omega (arith, c.longest_with-longest.type_inv),
+      set_next _ _ l most (some t.before.before) (below t.before.before) (rw k.mask.ensures at c.longest_with-longest.ensures),
     )
 
-pub longest-spec : {M : Type 1} → statement M
-longest-spec =
+pub longest_spec : {M : Type 1} → statement M
+longest_spec =
     tie.close
     (tie.spec
     invariant-loop
@@ -64,4 +64,4 @@ longest-spec =
     (λ c. some c.before.before)
     (λ c. strike_less _ (some c.before.before))
     loop-again
-    (λ c. let (l, few, most) = c.before.loop.invariant in set_all _ _ l most (ended c) few))
+    (λ c. let (l, few, most) = c.loop-rest.invariant in set_all _ _ l most (ended c) few))

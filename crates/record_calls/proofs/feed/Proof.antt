@@ -7,17 +7,17 @@ use borrow.Author.Rules.{rules}
 use Rattle.record_calls.proofs.feed.Statement.{statement}
 use Rattle.record_calls.proofs.feed.Tie as tie
 
-returns : tie.Need-returns
+returns : tie.Need-returns-then-position-lt-POSITION
 returns c = refuses (omega arith) c.no_room.ensures refl refl
 
-returns-2 : tie.Need-returns-2
+returns-2 : tie.Need-returns
 returns-2 c =
-    let at-feed = c.before.before.before.before.before.before in
-    answers (omega arith) at-feed.feed.result
-    at-feed.feed.ensures c.before.before.pass-answer.ensures
+    let at-feed = c in
+    answers (omega arith) at-feed.feed-answer.result
+    at-feed.feed-answer.ensures c.pass_answer.ensures
 
-pub feed-spec : {M : Type 1} → statement M
-feed-spec =
+pub feed_spec : {M : Type 1} → statement M
+feed_spec =
     tie.close
     (tie.spec
     (λ c κs. search rules)

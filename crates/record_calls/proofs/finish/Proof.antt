@@ -7,32 +7,32 @@ use borrow.Author.Rules.{rules}
 use Rattle.record_calls.proofs.finish.Statement.{statement}
 use Rattle.record_calls.proofs.finish.Tie as tie
 
-cast-result : tie.Need-overflow-cast-result
+cast-result : tie.Need-overflow_cast-result
 cast-result c =
-    let at-finish = c.before.before.before.before.before in
-    let (p, (l, _)) = rw c.before.ended.given.1 at at-finish.finish.ensures in
+    let at-finish = c in
+    let (p, (l, _)) = rw c.in-Open.is at at-finish.finish-ended.ensures in
     omega (arith, few_ended _ _ _ p)
 
-returns : tie.Need-returns
+returns : tie.Need-returns-in-Open
 returns c =
-    let at-finish = c.before.before.before.before.before in
+    let at-finish = c in
     record {
-      answer = at-finish.finish.result;
+      answer = at-finish.finish-ended.result;
       meets =
-          at-finish.finish.ensures;
+          at-finish.finish-ended.ensures;
       passed =
-          rw c.before.ended.given.1 (record { answered = refl; written = refl });
+          rw c.in-Open.is (record { answered = refl; written = refl });
     }
 
-returns-2 : tie.Need-returns-2
+returns-2 : tie.Need-returns-in-Refused
 returns-2 c =
-    let at-finish = c.before.before.before.before.before in
+    let at-finish = c in
     record {
-      answer = at-finish.finish.result;
+      answer = at-finish.finish-ended.result;
       meets =
-          at-finish.finish.ensures;
+          at-finish.finish-ended.ensures;
       passed =
-          rw c.before.ended2.given.1 (record { answered = refl; written = refl });
+          rw c.in-Refused.is (record { answered = refl; written = refl });
     }
 
 pub finish_spec : {M : Type 1} → statement M

@@ -7,14 +7,14 @@ use borrow.Author.Rules.{rules}
 use Rattle.record_calls.proofs.open.Statement.{statement}
 use Rattle.record_calls.proofs.open.Tie as tie
 
-returns : tie.Need-returns
+returns : tie.Need-returns-then-position-lt-POSITION
 returns c = refuses (omega arith) c.no_room.ensures refl refl
 
-returns-2 : tie.Need-returns-2
+returns-2 : tie.Need-returns
 returns-2 c =
-    let back-6 = c.before.before.before.before.before.before in
-    answers (omega arith) back-6.«open».result
-    back-6.«open».ensures c.before.before.pass-answer.ensures
+    let back-6 = c in
+    answers (omega arith) back-6.open-answer.result
+    back-6.open-answer.ensures c.pass_answer.ensures
 
 pub open_spec : {M : Type 1} → statement M
 open_spec =

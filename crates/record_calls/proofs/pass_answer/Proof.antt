@@ -6,15 +6,15 @@ use borrow.Author.Rules.{rules}
 use Rattle.record_calls.proofs.pass_answer.Statement.{statement}
 use Rattle.record_calls.proofs.pass_answer.Tie as tie
 
-returns : tie.Need-returns
-returns c = rw c.before.answer.given.1 (record { answered = refl; written = refl })
+returns : tie.Need-returns-in-Refused
+returns c = rw c.in-Refused.is (record { answered = refl; written = refl })
 
-returns-2 : tie.Need-returns-2
-returns-2 c = rw c.before.answer2.given.1
-    (record { answered = refl; written = stored_one c.before.before.before.args.position.now _ c.before.before.before.requires })
+returns-2 : tie.Need-returns-in-Resolved
+returns-2 c = rw c.in-Resolved.is
+    (record { answered = refl; written = stored_one c.args.position.now _ c.requires })
 
-pub pass-answer-spec : {M : Type 1} → statement M
-pass-answer-spec =
+pub pass_answer_spec : {M : Type 1} → statement M
+pass_answer_spec =
     tie.close
     (tie.spec
     (λ c. search rules)

@@ -8,27 +8,27 @@ use borrow.Author.Rules.{rules}
 use Rattle.table_calls.proofs.judge.Statement.{statement}
 use Rattle.table_calls.proofs.judge.Tie as tie
 
-returns : tie.Need-returns
+returns : tie.Need-returns-then-sets-lt2
 returns c = refuses (omega arith) c.no_room.ensures refl tt
 
-returns-2 : tie.Need-returns-2
+returns-2 : tie.Need-returns-in-Told
 returns-2 c =
-    let at-judge = c.before.before.before.before in
-    let start = at-judge.before.before.before.before.before in
-    answers (omega arith) at-judge.judge.result at-judge.judge.ensures
-    (rw c.before.before.judged.given.1
+    let at-judge = c in
+    let start = at-judge in
+    answers (omega arith) at-judge.judge-judged.result at-judge.judge-judged.ensures
+    (rw c.in-Told.is
     (record {
-      answered = bit_of_lem c.before.before.judged.given.0.0.minimal;
+      answered = bit_of_lem c.in-Told.v.minimal;
       written =
           stored_two start.args.sets.now _ _ (omega arith);
     }))
 
-returns-3 : tie.Need-returns-3
-returns-3 c = answers (omega arith) c.before.before.before.judge.result c.before.before.before.judge.ensures
-    (rw c.before.judged2.given.1 (record { answered = refl; written = refl }))
+returns-3 : tie.Need-returns-in-Refused
+returns-3 c = answers (omega arith) c.judge-judged.result c.judge-judged.ensures
+    (rw c.in-Refused.is (record { answered = refl; written = refl }))
 
-pub judge-spec : {M : Type 1} → statement M
-judge-spec =
+pub judge_spec : {M : Type 1} → statement M
+judge_spec =
     tie.close
     (tie.spec
     (λ c κs. search rules)

@@ -8,19 +8,19 @@ use borrow.Author.Rules.{rules}
 use Rattle.table_calls.proofs.step.Statement.{statement}
 use Rattle.table_calls.proofs.step.Tie as tie
 
-returns : tie.Need-returns
+returns : tie.Need-returns-then-next-lt1
 returns c = refuses (omega arith) c.no_room.ensures refl tt
 
-returns-2 : tie.Need-returns-2
+returns-2 : tie.Need-returns-in-To
 returns-2 c =
-    let at-step = c.before.before.before in
-    let start = at-step.before.before.before.before in
-    answers (omega arith) at-step.step.result at-step.step.ensures
-    (rw c.before.stepped.given.1 (record { answered = refl; written = stored_one start.args.next.now _ (omega arith) }))
+    let at-step = c in
+    let start = at-step in
+    answers (omega arith) at-step.step-stepped.result at-step.step-stepped.ensures
+    (rw c.in-To.is (record { answered = refl; written = stored_one start.args.next.now _ (omega arith) }))
 
-returns-3 : tie.Need-returns-3
-returns-3 c = answers (omega arith) c.before.before.before.step.result c.before.before.before.step.ensures
-    (rw c.before.stepped2.given.1 (record { answered = refl; written = refl }))
+returns-3 : tie.Need-returns-in-Refused
+returns-3 c = answers (omega arith) c.step-stepped.result c.step-stepped.ensures
+    (rw c.in-Refused.is (record { answered = refl; written = refl }))
 
 pub step_spec : {M : Type 1} → statement M
 step_spec =

@@ -8,31 +8,31 @@ use borrow.Author.Rules.{rules}
 use Rattle.table_calls.proofs.walk.Statement.{statement}
 use Rattle.table_calls.proofs.walk.Tie as tie
 
-returns : tie.Need-returns
+returns : tie.Need-returns-then-length-lt1
 returns c = refuses (omega arith) c.no_room.ensures refl refl
 
-returns-2 : tie.Need-returns-2
+returns-2 : tie.Need-returns-in-Upto
 returns-2 c =
-    let at-walk = c.before.before.before.before.before in
-    let start = at-walk.before.before.before.before.before.before.before in
-    answers (omega arith) at-walk.walk.result
-    at-walk.walk.ensures
-    (rw c.before.walked.given.1
+    let at-walk = c in
+    let start = at-walk in
+    answers (omega arith) at-walk.walk-walked.result
+    at-walk.walk-walked.ensures
+    (rw c.in-Upto.is
     (record {
       answered = refl;
       written =
           stored_one start.args.length.now _ (omega arith);
     }))
 
-returns-3 : tie.Need-returns-3
+returns-3 : tie.Need-returns-in-Refused
 returns-3 c =
-    let at-walk = c.before.before.before.before.before in
-    answers (omega arith) at-walk.walk.result
-    at-walk.walk.ensures
-    (rw c.before.walked2.given.1 (record { answered = refl; written = refl }))
+    let at-walk = c in
+    answers (omega arith) at-walk.walk-walked.result
+    at-walk.walk-walked.ensures
+    (rw c.in-Refused.is (record { answered = refl; written = refl }))
 
-pub walk-spec : {M : Type 1} → statement M
-walk-spec =
+pub walk_spec : {M : Type 1} → statement M
+walk_spec =
     tie.close
     (tie.spec
     (λ c κs. search rules)

@@ -6,34 +6,34 @@ use borrow.Author.Rules.{rules}
 use Rattle.text.proofs.opened.Statement.{statement}
 use Rattle.text.proofs.opened.Tie as tie
 
-returns : tie.Need-returns
+returns : tie.Need-returns-then-is_refusal
 returns c =
-    let at-reply = c.before.before.before.before in
-    let back-8 = at-reply.before.before.before.before in
-    let s = back-8.before.before.before.before.before in
-    let o = back-8.«open».ensures in
-    let e = sym c.before.is_refusal_lem.ensures ∙ c.if1.true in (
+    let at-reply = c in
+    let back-8 = at-reply in
+    let s = back-8 in
+    let o = back-8.open-answer.ensures in
+    let e = sym c.is_refusal.ensures ∙ c.if-is_refusal.true in (
       opened_ends s.args.table.now s.requires.0 s.requires.1 s.args.rec.now s.requires.2 o.0 o.1
-          at-reply.reply.ensures.0 e,
+          at-reply.reply-end.ensures.0 e,
       o.1,
       rw (← o.0) e,
     )
 
-returns-2 : tie.Need-returns-2
+returns-2 : tie.Need-returns-else-is_refusal
 returns-2 c =
-    let at-reply = c.before.before.before.before in
-    let back-8 = at-reply.before.before.before.before in
-    let s = back-8.before.before.before.before.before in
-    let o = back-8.«open».ensures in
-    let e = sym c.before.is_refusal_lem.ensures ∙ c.if1.false in (
+    let at-reply = c in
+    let back-8 = at-reply in
+    let s = back-8 in
+    let o = back-8.open-answer.ensures in
+    let e = sym c.is_refusal.ensures ∙ c.if-is_refusal.false in (
       opened_goes s.args.table.now s.requires.0 s.requires.1 s.args.rec.now s.requires.2 o.0 o.1
-          at-reply.reply.ensures.0 e,
+          at-reply.reply-end.ensures.0 e,
       o.1,
       rw (← o.0) e,
     )
 
-pub opened-spec : {M : Type 1} → statement M
-opened-spec =
+pub opened_spec : {M : Type 1} → statement M
+opened_spec =
     tie.close
     (tie.spec
     (λ c κs. search rules)

@@ -10,52 +10,52 @@ use borrow.Author.Rules.{rules}
 use Rattle.text.proofs.reply.Statement.{statement}
 use Rattle.text.proofs.reply.Tie as tie
 
-refused-few : (c : tie.After-known-told) → length (refused_line c.before.answer.given.0.0) ≤ 19
-refused-few c = refused_width _ (omega (arith, c.known-told.given))
+refused-few : (c : tie.In-Refused) → length (refused_line c.in-Refused.number) ≤ 19
+refused-few c = refused_width _ (omega (arith, c.in-Refused.known_told-1-own.given))
 
-resolution-few : (c : tie.After-known-told2)
-    → length (resolution_line c.before.answer2.given.0.0 c.before.answer2.given.0.1.0) ≤ 24
-resolution-few c = resolution_width _ _ (omega (arith, c.known-told2.given)) (omega (arith, c.known-told2.given))
+resolution-few : (c : tie.In-Resolved)
+    → length (resolution_line c.in-Resolved.position c.in-Resolved.state) ≤ 24
+resolution-few c = resolution_width _ _ (omega (arith, c.in-Resolved.known_told-in-Resolved-1-own.given)) (omega (arith, c.in-Resolved.known_told-in-Resolved-1-own.given))
 
 refused-requires : tie.Need-refused-requires
 refused-requires c κs =
-    let start = c.before.before.before.before.before in
+    let start = c in
     record { fits = omega (arith, refused-few c.before, start.requires) }
 
 resolution-requires : tie.Need-resolution-requires
 resolution-requires c κs =
-    let start = c.before.before.before.before.before in
+    let start = c in
     record { fits = omega (arith, resolution-few c.before, start.requires) }
 
-enum_told : tie.Need-enum-told
+enum_told : tie.Need-enum_told-1
 enum_told c = search rules
 
-returns : tie.Need-returns
+returns : tie.Need-returns-in-Refused
 returns c =
-    let back-4 = c.before.before.before.before in
-    let at-answer = back-4.before in
-    rw at-answer.answer.given.1 (
-      c.before.before.refused.ensures,
+    let back-4 = c in
+    let at-answer = back-4 in
+    rw at-answer.in-Refused.is (
+      c.refused.ensures,
       omega
-          (arith, c.before.before.refused.ensures.end, refused-few back-4),
+          (arith, c.refused.ensures.end, refused-few back-4.before.before.before.before),
     )
 
-returns-2 : tie.Need-returns-2
+returns-2 : tie.Need-returns-in-Resolved
 returns-2 c =
-    let back-4 = c.before.before.before.before in
-    let at-answer2 = back-4.before in
-    rw at-answer2.answer2.given.1 (
-      c.before.before.resolution.ensures,
+    let back-4 = c in
+    let at-answer2 = back-4 in
+    rw at-answer2.in-Resolved.is (
+      c.resolution.ensures,
       omega
-          (arith, c.before.before.resolution.ensures.end, resolution-few back-4),
+          (arith, c.resolution.ensures.end, resolution-few back-4.before.before.before.before),
     )
 
-returns-3 : tie.Need-returns-3
-returns-3 c = let s = c.before.before.before in
-    rw c.enum_told.given.1 (appended_none s.args.at (omega (arith, s.requires)), omega arith)
+returns-3 : tie.Need-returns-in-Nothing
+returns-3 c = let s = c in
+    rw c.in-Nothing.is (appended_none s.args.at (omega (arith, s.requires)), omega arith)
 
-pub reply-spec : {M : Type 1} → statement M
-reply-spec =
+pub reply_spec : {M : Type 1} → statement M
+reply_spec =
     tie.close
     (tie.spec
     (λ c. search rules)
