@@ -1,4 +1,6 @@
 // The page for the hut wall (document 02, W-206): the needs of a plan's critical sets, a line to each that counts and is not empty.
+#![tactic(auto)]
+
 ghost use Rattle.std.specs.Prelude.{◌≡◌, [], ◌∷◌, ◌++◌, ◌+◌, ◌*◌, ◌^◌, min, ◌≤◌, ◌<◌, length};
 ghost use Rattle.slices.specs.Appending.{each, Room, Appended};
 ghost use Rattle.decimals.specs.Decimals.{decimal, blanks, right, left};

@@ -1,6 +1,8 @@
 // The calls on plan bytes for C, over plain numbers and lent slices: reading, preparing, the count call, the drawing program's entry, the
 // check of a claim, writing, the needs of the critical sets and their page. Where a slice for further values has too few places for the
 // most that a call may have to put there, the call is refused with 9 before anything is written.
+#![tactic(auto)]
+
 ghost use Rattle.std.specs.Prelude.{◌≡◌, ◌≤◌, length, get_or};
 ghost use Rattle.plan.specs.Bytes.{asked_checks, asked};
 ghost use Rattle.prepare.specs.Preparing.{Draws};

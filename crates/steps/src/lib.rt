@@ -1,4 +1,6 @@
 // Which call comes next: a report from its first byte to its last as steps, each on the bytes that were just read.
+#![tactic(auto)]
+
 ghost use Rattle.std.specs.Prelude.{◌≡◌, ◌+◌, ◌*◌, ◌≤◌, ◌<◌, length};
 ghost use Rattle.slices.specs.Appending.{Appended};
 ghost use Rattle.text.specs.Calls.{most_sets, open_width, open_on};

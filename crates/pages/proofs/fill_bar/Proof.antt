@@ -11,18 +11,18 @@ use Rattle.pages.proofs.Columns.{bar_put}
 use Rattle.pages.proofs.fill_bar.Statement.{statement}
 use Rattle.pages.proofs.fill_bar.Tie as tie
 
-abbrev invariant-loop : tie.invariant-loop
+abbrev invariant-loop : tie.invariant-loop-i
 invariant-loop columns₀ count i₀ i-end columns i =
     (i-end ≡ min longest_bar count) × (i ≤ i-end) × Copied (bar count) (blanks longest_bar) i columns
 
-abbrev decreases-loop : tie.decreases-loop
+abbrev decreases-loop : tie.decreases-loop-i
 decreases-loop columns₀ count i₀ i-end columns i = i-end - i
 
-loop-again : tie.Need-loop-preserved invariant-loop decreases-loop
+loop-again : tie.Need-loop-i-preserved invariant-loop decreases-loop
 loop-again c =
-    let i = c.before.loop in
+    let i = c.loop-i in
     let (e, _, o) = i.invariant in
-    let signs = min longest_bar c.before.before.before.before.args.count in (
+    let signs = min longest_bar c.args.count in (
       e,
       omega arith,
       copied_next o (rw length-replicate (omega (arith, e))) (omega (arith, e)) (sym (get_or-replicate signs i.i 35 0 (omega (arith, e)))),
@@ -30,21 +30,21 @@ loop-again c =
 
 returns : tie.Need-returns invariant-loop decreases-loop
 returns c =
-    let (e, _, o) = c.before.loop.invariant in
-    let count = c.before.before.before.before.args.count in
+    let (e, _, o) = c.loop-i.invariant in
+    let count = c.args.count in
     bar_put count (copied_all o (min longest_bar count) (omega (arith, e)) (length-replicate _ _))
 
-pub fill-bar-spec : {M : Type 1} → statement M
-fill-bar-spec =
+pub fill_bar_spec : {M : Type 1} → statement M
+fill_bar_spec =
     tie.close
     (tie.spec
     invariant-loop
     decreases-loop
     (λ c κs. tt)
-    (λ c. (c.signs.ensures, omega arith, rw c.before.before.requires (copied_none _ _)))
-    (λ c. let (e, _, o) = c.before.loop.invariant in omega (arith, e, o.long))
+    (λ c. (c.signs-i-end.ensures, omega arith, rw c.requires (copied_none _ _)))
+    (λ c. let (e, _, o) = c.loop-i.invariant in omega (arith, e, o.long))
     (λ c. omega arith)
     (λ c. omega arith)
     loop-again
-    (λ c. rw c.before.before.before.before.requires c.before.loop.invariant.2.long)
+    (λ c. rw c.requires c.loop-i.invariant.2.long)
     returns)

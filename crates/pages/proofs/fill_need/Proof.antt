@@ -12,22 +12,22 @@ use borrow.Author.Rules.{rules}
 use Rattle.pages.proofs.fill_need.Statement.{statement}
 use Rattle.pages.proofs.fill_need.Tie as tie
 
-returns : tie.Need-returns
-returns c = ap (λ (l : List ℕ). set l 5 45) c.before.before.requires ∙ sym (need_dash c.if1.true)
+returns : tie.Need-returns-then-need-eq-ENDLESS
+returns c = ap (λ (l : List ℕ). set l 5 45) c.requires ∙ sym (need_dash c.if-need-eq-ENDLESS.true)
 
-returns-2 : tie.Need-returns-2
+returns-2 : tie.Need-returns-else-need-eq-ENDLESS
 returns-2 c =
-    let r = c.before.before in
-    let e = r.before.before in
-    let s = e.before.before in
-    right_blank 6 s.args.need (rw s.requires at r.right.ensures) ∙ sym (need_number e.if1.false)
+    let r = c in
+    let e = r in
+    let s = e in
+    right_blank 6 s.args.need (rw s.requires at r.right.ensures) ∙ sym (need_number e.if-need-eq-ENDLESS.false)
 
-pub fill-need-spec : {M : Type 1} → statement M
-fill-need-spec =
+pub fill_need_spec : {M : Type 1} → statement M
+fill_need_spec =
     tie.close
     (tie.spec
-    (λ c. rw c.before.before.requires (omega arith))
-    (λ c κs. let s = c.before.before.before in rw s.requires (decimal_length 5 s.args.need (omega arith)))
+    (λ c. rw c.requires (omega arith))
+    (λ c κs. let s = c in rw s.requires (decimal_length 5 s.args.need (omega arith)))
     (λ c. search rules)
     returns
     (λ c. search rules)

@@ -12,35 +12,34 @@ use borrow.Author.Rules.{rules}
 use Rattle.pages.proofs.fill_tail.Statement.{statement}
 use Rattle.pages.proofs.fill_tail.Tie as tie
 
-abbrev from-1 : tie.After-copy-8 → tie.Start
-from-1 c = c.before.before.before.before
+abbrev from-1 : tie.After-copy_8 → tie.Start
+from-1 c = c.before.before.before.before.before
 
-abbrev from-2 : tie.After-fill-bar → tie.After-copy-8
+abbrev from-2 : tie.After-fill_bar → tie.After-copy_8
 from-2 c = c.before.before.before.before
 
-blank : (c : tie.After-copy-8) → c.copy-8.new.0 ≡ blanks 31 ++ (10 ∷ [])
-blank c = made (blanks 31 ++ (10 ∷ [])) (from-1 c).args.columns.now (from-1 c).requires c.copy-8.ensures
+blank : (c : tie.After-copy_8) → c.copy_8.new.out ≡ blanks 31 ++ (10 ∷ [])
+blank c = made (blanks 31 ++ (10 ∷ [])) (from-1 c).args.columns.now (from-1 c).requires c.copy_8.ensures
 
-signs : (c : tie.After-fill-bar) → c.fill-bar.new.0 ≡ left longest_bar (bar (states (from-1 (from-2 c)).args.set))
-signs c = rw (ones_size 64 (from-1 (from-2 c)).args.set (omega arith)) at c.fill-bar.ensures
+signs : (c : tie.After-fill_bar) → c.fill_bar.new.columns ≡ left longest_bar (bar (states (from-1 (from-2 c)).args.set))
+signs c = rw (ones_size 64 (from-1 (from-2 c)).args.set (omega arith)) at c.fill_bar.ensures
 
-fill-bar-requires : tie.Need-fill-bar-requires
+fill-bar-requires : tie.Need-fill_bar-requires
 fill-bar-requires c κs = rw (blank c.before.before.before) refl
 
-fill-need-requires : tie.Need-fill-need-requires
+fill-need-requires : tie.Need-fill_need-requires
 fill-need-requires c κs = rw (blank (from-2 c.before.before.before)) refl
 
 returns : tie.Need-returns
 returns c =
-    let n = c.before.before in
-    let b = n.before.before.before.before in
-    tail_put _ _ (blank (from-2 b)) (signs b) n.fill-need.ensures
+    let n = c in
+    let b = n in
+    tail_put _ _ (blank (from-2 b.before.before.before.before.before.before)) (signs b.before.before.before.before.before.before) n.fill_need.ensures
 
-pub fill-tail-spec : {M : Type 1} → statement M
-fill-tail-spec =
+pub fill_tail_spec : {M : Type 1} → statement M
+fill_tail_spec =
     tie.close
     (tie.spec
-    (λ c. search rules)
     (λ c κs. search rules)
     (λ c. search rules)
     (λ c. search rules)

@@ -17,8 +17,8 @@ nine s = label_long s.args.q s.args.a s.requires.0 s.requires.1
 within : (s : tie.Start) → s.args.at + 9 ≤ length s.args.out.now
 within s = omega (arith, nine s, s.requires.2.fits)
 
-pub put-label-spec : {M : Type 1} → statement M
-put-label-spec =
+pub put_label_spec : {M : Type 1} → statement M
+put_label_spec =
     tie.close
     (tie.spec
     (λ c. search rules)
@@ -28,6 +28,6 @@ put-label-spec =
     (λ c κs. search rules)
     (λ c. search rules)
     (λ c.
-    let f = c.before.before in
-    let s = f.before.before.before in
-    part_filled s.args.out.now s.args.at 9 (nine s) s.requires.2 f.fill-label.ensures))
+    let f = c in
+    let s = f in
+    part_filled s.args.out.now s.args.at 9 (nine s.before.before.before.before.before) s.requires.2 f.fill_label.ensures))

@@ -17,8 +17,8 @@ thirty_two s = tail_long s.args.need (states s.args.set) (need_short s.args.need
 within : (s : tie.Start) → s.args.at + 32 ≤ length s.args.out.now
 within s = omega (arith, thirty_two s, s.requires.fits)
 
-pub put-tail-spec : {M : Type 1} → statement M
-put-tail-spec =
+pub put_tail_spec : {M : Type 1} → statement M
+put_tail_spec =
     tie.close
     (tie.spec
     (λ c. omega (arith, within c.before))
@@ -28,6 +28,6 @@ put-tail-spec =
     (λ c κs. search rules)
     (λ c. search rules)
     (λ c.
-    let f = c.before.before in
-    let s = f.before.before.before in
-    part_filled s.args.out.now s.args.at 32 (thirty_two s) s.requires f.fill-tail.ensures))
+    let f = c in
+    let s = f in
+    part_filled s.args.out.now s.args.at 32 (thirty_two s.before.before.before.before.before) s.requires f.fill_tail.ensures))

@@ -6,19 +6,19 @@ use Rattle.plan_calls.proofs.claim_of.Tie as tie
 
 returns : tie.Need-returns
 returns c =
-    let third = c.before.before.before in
-    let second = third.before in
+    let third = c in
+    let second = third in
     rw (
-      second.before.number_at.ensures,
-      second.number-at2.ensures,
-      third.number-at3.ensures,
-      c.before.before.number-at4.ensures,
-      c.before.number-at5.ensures,
-      c.number-at6.ensures,
+      second.number_at.ensures,
+      second.number_at-2.ensures,
+      third.number_at-3.ensures,
+      c.number_at-4.ensures,
+      c.number_at-5.ensures,
+      c.number_at-6.ensures,
     )
 
-pub claim-of-spec : {M : Type 1} → statement M
-claim-of-spec =
+pub claim_of_spec : {M : Type 1} → statement M
+claim_of_spec =
     tie.close
     (tie.spec
     (λ c κs. search rules)

@@ -10,28 +10,28 @@ use borrow.Author.Rules.{rules}
 use Rattle.plan_calls.proofs.look_ahead.Statement.{statement}
 use Rattle.plan_calls.proofs.look_ahead.Tie as tie
 
-returns : tie.Need-returns
+returns : tie.Need-returns-then-evidence-lt-EVIDENCE
 returns c = refuses (omega arith) c.no_room.ensures refl refl
 
-pass-prepared-requires : tie.Need-pass-prepared-requires
+pass-prepared-requires : tie.Need-pass_prepared-requires
 pass-prepared-requires c κs =
-    let start = c.before.before.before.before.before.before.before.before.before in (
+    let start = c in (
       counts_fit (asked start.args.plan.now start.args.party)
           (asked_proper start.args.plan.now start.args.party)
-          c.before.before.before.count.result
+          c.count-counted.result
           start.args.letters.now _
-          c.before.before.before.count.ensures,
+          c.count-counted.ensures,
       omega arith,
     )
 
-returns-2 : tie.Need-returns-2
+returns-2 : tie.Need-returns
 returns-2 c =
-    let at_count = c.before.before.before.before.before.before in
-    answers (omega arith) at_count.count.result
-    at_count.count.ensures c.before.before.pass-prepared.ensures
+    let at_count = c in
+    answers (omega arith) at_count.count-counted.result
+    at_count.count-counted.ensures c.pass_prepared.ensures
 
-pub look-ahead-spec : {M : Type 1} → statement M
-look-ahead-spec =
+pub look_ahead_spec : {M : Type 1} → statement M
+look_ahead_spec =
     tie.close
     (tie.spec
     (λ c κs. search rules)

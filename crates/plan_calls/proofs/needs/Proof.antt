@@ -8,31 +8,31 @@ use Rattle.needs.proofs.Theorems.{needs_few}
 use Rattle.plan_calls.proofs.needs.Statement.{statement}
 use Rattle.plan_calls.proofs.needs.Tie as tie
 
-cast-result : tie.Need-overflow-cast-result
+cast-result : tie.Need-overflow_cast-result
 cast-result c =
-    let w = c.before.before.before.before.before in
-    omega (arith, needs_few _ (asked_proper _ _) _ _ _ (rw c.before.told.given.1 at w.of-plan.ensures))
+    let w = c in
+    omega (arith, needs_few _ (asked_proper _ _) _ _ _ (rw c.in-Entries.is at w.of_plan-told.ensures))
 
-returns : tie.Need-returns
+returns : tie.Need-returns-in-Entries
 returns c =
-    let w = c.before.before.before.before.before in
+    let w = c in
     record {
-      answer = w.of-plan.result;
-      meets = w.of-plan.ensures;
-      passed = rw c.before.told.given.1 (record { answered = refl; written = refl });
+      answer = w.of_plan-told.result;
+      meets = w.of_plan-told.ensures;
+      passed = rw c.in-Entries.is (record { answered = refl; written = refl });
     }
 
-returns-2 : tie.Need-returns-2
+returns-2 : tie.Need-returns-in-Refused
 returns-2 c =
-    let w = c.before.before.before.before.before in
+    let w = c in
     record {
-      answer = w.of-plan.result;
-      meets = w.of-plan.ensures;
-      passed = rw c.before.told2.given.1 (record { answered = refl; written = refl });
+      answer = w.of_plan-told.result;
+      meets = w.of_plan-told.ensures;
+      passed = rw c.in-Refused.is (record { answered = refl; written = refl });
     }
 
-pub needs-spec : {M : Type 1} → statement M
-needs-spec =
+pub needs_spec : {M : Type 1} → statement M
+needs_spec =
     tie.close
     (tie.spec
     (λ c κs. search rules)

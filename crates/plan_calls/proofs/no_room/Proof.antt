@@ -8,25 +8,25 @@ use borrow.Author.Rules.{rules}
 use Rattle.plan_calls.proofs.no_room.Statement.{statement}
 use Rattle.plan_calls.proofs.no_room.Tie as tie
 
-abbrev start : tie.After-load → tie.Start
+abbrev start : tie.After-load-loaded → tie.Start
 start c = c.before.before.before
 
-returns : tie.Need-returns
+returns : tie.Need-returns-in-Refused
 returns c =
-    let l = c.before.before.before in
-    let a = (start l).args in
-    let (e, n) = rw c.before.loaded.given.1 at l.load.ensures in
+    let l = c in
+    let a = (start l.before).args in
+    let (e, n) = rw c.in-Refused.is at l.load-loaded.ensures in
     no_room_refused (asked a.plan.now a.party) (asked_proper a.plan.now a.party) e n
 
-returns-2 : tie.Need-returns-2
+returns-2 : tie.Need-returns-in-Plan
 returns-2 c =
-    let l = c.before.before in
-    let a = (start l).args in
-    let (w, _, _, _) = rw c.enum_told.given.1 at l.load.ensures in
+    let l = c in
+    let a = (start l.before).args in
+    let (w, _, _, _) = rw c.in-Plan.is at l.load-loaded.ensures in
     no_room_passed (asked a.plan.now a.party) (asked_proper a.plan.now a.party) w
 
-pub no-room-spec : {M : Type 1} → statement M
-no-room-spec =
+pub no_room_spec : {M : Type 1} → statement M
+no_room_spec =
     tie.close
     (tie.spec
     (λ c κs. blank _)

@@ -8,27 +8,27 @@ use borrow.Author.Rules.{rules}
 use Rattle.plan_calls.proofs.page.Statement.{statement}
 use Rattle.plan_calls.proofs.page.Tie as tie
 
-abbrev start : tie.After-of-plan → tie.Start
+abbrev start : tie.After-of_plan-paged → tie.Start
 start c = c.before.before.before.before.before.before
 
-returns : tie.Need-returns
+returns : tie.Need-returns-then-length-lt1
 returns c = refuses (omega arith) c.no_room.ensures refl refl
 
-returns-2 : tie.Need-returns-2
+returns-2 : tie.Need-returns-in-Bytes
 returns-2 c =
-    let p = c.before.before.before.before.before in
-    answers (omega arith) p.of-plan.result p.of-plan.ensures
-    (rw c.before.paged.given.1
-    (record { answered = refl; written = stored_one (start p).args.length.now _ (omega arith) }))
+    let p = c in
+    answers (omega arith) p.of_plan-paged.result p.of_plan-paged.ensures
+    (rw c.in-Bytes.is
+    (record { answered = refl; written = stored_one (start p.before.before.before).args.length.now _ (omega arith) }))
 
-returns-3 : tie.Need-returns-3
+returns-3 : tie.Need-returns-in-Refused
 returns-3 c =
-    let p = c.before.before.before.before.before in
-    answers (omega arith) p.of-plan.result p.of-plan.ensures
-    (rw c.before.paged2.given.1 (record { answered = refl; written = refl }))
+    let p = c in
+    answers (omega arith) p.of_plan-paged.result p.of_plan-paged.ensures
+    (rw c.in-Refused.is (record { answered = refl; written = refl }))
 
-pub page-spec : {M : Type 1} → statement M
-page-spec =
+pub page_spec : {M : Type 1} → statement M
+page_spec =
     tie.close
     (tie.spec
     (λ c κs. search rules)

@@ -6,22 +6,22 @@ use borrow.Author.Rules.{rules}
 use Rattle.plan_calls.proofs.pass_prepared.Statement.{statement}
 use Rattle.plan_calls.proofs.pass_prepared.Tie as tie
 
-cast-result : tie.Need-overflow-cast-result
+cast-result : tie.Need-overflow_cast-result
 cast-result c =
-    let start = c.before.before.before.before in
-    omega (arith, rw c.before.prepared.given.1 at start.requires.0)
+    let start = c in
+    omega (arith, rw c.in-Ready.is at start.requires.0)
 
-returns-2 : tie.Need-returns-2
-returns-2 c = rw c.before.prepared2.given.1 (record { answered = refl; written = refl })
+returns-2 : tie.Need-returns-in-Refused
+returns-2 c = rw c.in-Refused.is (record { answered = refl; written = refl })
 
-returns-3 : tie.Need-returns-3
+returns-3 : tie.Need-returns-in-Unpredictable
 returns-3 c =
-    let at-prepared3 = c.before.before.before.before.before.before in
-    rw at-prepared3.prepared3.given.1
-    (record { answered = refl; written = c.before.before.copy-32.ensures })
+    let at-prepared3 = c in
+    rw at-prepared3.in-Unpredictable.is
+    (record { answered = refl; written = c.copy_32.ensures })
 
-pub pass-prepared-spec : {M : Type 1} → statement M
-pass-prepared-spec =
+pub pass_prepared_spec : {M : Type 1} → statement M
+pass_prepared_spec =
     tie.close
     (tie.spec
     (λ c. search rules)

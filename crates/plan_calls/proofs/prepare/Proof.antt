@@ -10,26 +10,26 @@ use borrow.Author.Rules.{rules}
 use Rattle.plan_calls.proofs.prepare.Statement.{statement}
 use Rattle.plan_calls.proofs.prepare.Tie as tie
 
-returns : tie.Need-returns
+returns : tie.Need-returns-then-evidence-lt-EVIDENCE
 returns c = refuses (omega arith) c.no_room.ensures refl (refl, refl)
 
-pass-prepared-requires : tie.Need-pass-prepared-requires
+pass-prepared-requires : tie.Need-pass_prepared-requires
 pass-prepared-requires c κs =
-    let at-prepare-5 = c.before.before.before.before.before in
-    let start = at-prepare-5.before.before.before.before.before.before.before.before in (
+    let at-prepare-5 = c in
+    let start = at-prepare-5 in (
       prepares_fit (asked start.args.plan.now start.args.party) (asked_proper start.args.plan.now start.args.party)
-          at-prepare-5.prepare.result start.args.table.now _ start.args.letters.now _ at-prepare-5.prepare.ensures,
+          at-prepare-5.prepare-prepared.result start.args.table.now _ start.args.letters.now _ at-prepare-5.prepare-prepared.ensures,
       omega arith,
     )
 
-returns-2 : tie.Need-returns-2
+returns-2 : tie.Need-returns
 returns-2 c =
-    let at-prepare = c.before.before.before.before.before.before.before.before in
-    answers (omega arith) at-prepare.prepare.result
-    at-prepare.prepare.ensures c.before.before.pass-prepared.ensures
+    let at-prepare = c in
+    answers (omega arith) at-prepare.prepare-prepared.result
+    at-prepare.prepare-prepared.ensures c.pass_prepared.ensures
 
-pub prepare-spec : {M : Type 1} → statement M
-prepare-spec =
+pub prepare_spec : {M : Type 1} → statement M
+prepare_spec =
     tie.close
     (tie.spec
     (λ c κs. search rules)

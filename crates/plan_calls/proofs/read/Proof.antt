@@ -8,21 +8,21 @@ use Rattle.plan_calls.proofs.Rooms.{no_room_zero}
 use Rattle.plan_calls.proofs.read.Statement.{statement}
 use Rattle.plan_calls.proofs.read.Tie as tie
 
-returns : tie.Need-returns
+returns : tie.Need-returns-then-counts-lt3
 returns c = refuses (omega arith) (c.no_room.ensures ∙ no_room_zero _) refl tt
 
-returns-2 : tie.Need-returns-2
-returns-2 c = answers (omega arith) c.before.before.before.read.result c.before.before.before.read.ensures
-    (rw c.before.reading.given.1 (record { answered = refl; written = refl }))
+returns-2 : tie.Need-returns-in-Refused
+returns-2 c = answers (omega arith) c.read-reading.result c.read-reading.ensures
+    (rw c.in-Refused.is (record { answered = refl; written = refl }))
 
-returns-3 : tie.Need-returns-3
+returns-3 : tie.Need-returns-in-Counts
 returns-3 c =
-    let at-reading2 = c.before.before.before.before.before.before in
-    let at_read = at-reading2.before.before in
-    answers (omega arith) at_read.read.result
-    at_read.read.ensures
-    (rw at-reading2.reading2.given.1
-    (record { answered = refl; written = c.before.before.copy-32.ensures }))
+    let at-reading2 = c in
+    let at_read = at-reading2 in
+    answers (omega arith) at_read.read-reading.result
+    at_read.read-reading.ensures
+    (rw at-reading2.in-Counts.is
+    (record { answered = refl; written = c.copy_32.ensures }))
 
 pub read_spec : {M : Type 1} → statement M
 read_spec =

@@ -7,27 +7,27 @@ use Rattle.filing.proofs.Form.{written_few}
 use Rattle.plan_calls.proofs.write.Statement.{statement}
 use Rattle.plan_calls.proofs.write.Tie as tie
 
-cast-result : tie.Need-overflow-cast-result
+cast-result : tie.Need-overflow_cast-result
 cast-result c =
-    let w = c.before.before.before.before.before in
-    omega (arith, written_few _ _ _ _ (rw c.before.written.given.1 at w.write.ensures))
+    let w = c in
+    omega (arith, written_few _ _ _ _ (rw c.in-Bytes.is at w.write-written.ensures))
 
-returns : tie.Need-returns
+returns : tie.Need-returns-in-Bytes
 returns c =
-    let w = c.before.before.before.before.before in
+    let w = c in
     record {
-      answer = w.write.result;
-      meets = w.write.ensures;
-      passed = rw c.before.written.given.1 (record { answered = refl; written = refl });
+      answer = w.write-written.result;
+      meets = w.write-written.ensures;
+      passed = rw c.in-Bytes.is (record { answered = refl; written = refl });
     }
 
-returns-2 : tie.Need-returns-2
+returns-2 : tie.Need-returns-in-Refused
 returns-2 c =
-    let w = c.before.before.before.before.before in
+    let w = c in
     record {
-      answer = w.write.result;
-      meets = w.write.ensures;
-      passed = rw c.before.written2.given.1 (record { answered = refl; written = refl });
+      answer = w.write-written.result;
+      meets = w.write-written.ensures;
+      passed = rw c.in-Refused.is (record { answered = refl; written = refl });
     }
 
 pub write_spec : {M : Type 1} → statement M

@@ -40,15 +40,15 @@ ill c =
     let back-4 = c in
     rw (c.in-Refused.is, part back-4.before.before) at c.read-reading.ensures
 
-counted : (c : tie.In-Counts) → let r = c.reading-in-Counts-1.given.0 in
-    outcome_of_reading (Counts r.0 r.1.0 r.1.1.0 r.1.1.1.0)
+counted : (c : tie.In-Counts) → let r = c.in-Counts in
+    outcome_of_reading (Counts r.n r.m r.p r.e)
     ≡ reading (plan_of c.args.input.now)
 counted c =
     let back-4 = c in
     rw (c.in-Counts.is, part back-4.before.before) at c.read-reading.ensures
 
-counts-few : (c : tie.In-Counts) → let r = c.reading-in-Counts-1.given.0 in
-    length (counts_line r.0 r.1.0 r.1.1.0 r.1.1.1.0) ≤ 50
+counts-few : (c : tie.In-Counts) → let r = c.in-Counts in
+    length (counts_line r.n r.m r.p r.e) ≤ 50
 counts-few c =
     let k = c.in-Counts.known_told-in-Counts-1-own.given in
     counts_width _ _ _ _ (omega (arith, k)) (omega (arith, k)) (omega (arith, k)) (omega (arith, k))
