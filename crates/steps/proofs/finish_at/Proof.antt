@@ -6,42 +6,42 @@ use borrow.Author.Rules.{rules}
 use Rattle.steps.proofs.finish_at.Statement.{statement}
 use Rattle.steps.proofs.finish_at.Tie as tie
 
-add-result : tie.Need-overflow-add-result
+add-result : tie.Need-overflow_add-result
 add-result c =
-    let at-finish = c.before.before.before.before.before in
-    absurd (rw c.before.printed.given.1 at at-finish.finish.ensures)
+    let at-finish = c in
+    absurd (rw c.in-Going.is at at-finish.finish-printed.ensures)
 
-add-result-2 : tie.Need-overflow-add-result-2
+add-result-2 : tie.Need-overflow_add-result-in-Ended
 add-result-2 c =
-    let at-finish = c.before.before.before.before.before in
-    let s = at-finish.before.before.before.before.before in
-    let p = (rw c.before.printed2.given.1 at at-finish.finish.ensures).1 in
+    let at-finish = c in
+    let s = at-finish in
+    let p = (rw c.in-Ended.is at at-finish.finish-printed.ensures).1 in
     omega (arith, s.requires, part_long s.args.at s.args.out.now, p.room.fits, p.end)
 
-enum_told : tie.Need-enum-told
+enum_told : tie.Need-enum_told-1
 enum_told c = search rules
 
-returns : tie.Need-returns
+returns : tie.Need-returns-in-Going
 returns c =
-    let at-finish = c.before.before.before.before.before in
-    absurd (rw c.before.printed.given.1 at at-finish.finish.ensures)
+    let at-finish = c in
+    absurd (rw c.in-Going.is at at-finish.finish-printed.ensures)
 
-returns-2 : tie.Need-returns-2
+returns-2 : tie.Need-returns-in-Ended
 returns-2 c =
-    let at-finish = c.before.before.before.before.before in
-    let s = at-finish.before.before.before.before.before in
-    let p = (rw c.before.printed2.given.1 at at-finish.finish.ensures).1 in
+    let at-finish = c in
+    let s = at-finish in
+    let p = (rw c.in-Ended.is at at-finish.finish-printed.ensures).1 in
     appended_part s.args.at s.args.out.now _ _ (omega (arith, s.requires)) p
 
-returns-3 : tie.Need-returns-3
+returns-3 : tie.Need-returns-in-Short
 returns-3 c =
-    let at-finish = c.before.before.before.before in
-    let s = at-finish.before.before.before.before.before in
-    let short = (rw c.enum_told.given.1 at at-finish.finish.ensures).0 in
+    let at-finish = c in
+    let s = at-finish in
+    let short = (rw c.in-Short.is at at-finish.finish-printed.ensures).0 in
     absurd (omega (arith, s.requires, part_long s.args.at s.args.out.now, short))
 
-pub finish-at-spec : {M : Type 1} → statement M
-finish-at-spec =
+pub finish_at_spec : {M : Type 1} → statement M
+finish_at_spec =
     tie.close
     (tie.spec
     (λ c. search rules)

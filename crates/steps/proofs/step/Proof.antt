@@ -6,26 +6,26 @@ use borrow.Author.Rules.{rules}
 use Rattle.steps.proofs.step.Statement.{statement}
 use Rattle.steps.proofs.step.Tie as tie
 
-enum_told : tie.Need-enum-told
+enum_told : tie.Need-enum_told-1
 enum_told c = search rules
 
-step-letters-requires : tie.Need-step-letters-requires
+step-letters-requires : tie.Need-step_letters-requires
 step-letters-requires c κs =
-    let start = c.before.before.before.before.before.before in
-    rw c.before.before.before.enum_told.given.1 at start.requires
+    let start = c in
+    rw c.in-Letters.is at start.requires
 
-returns : tie.Need-returns
+returns : tie.Need-returns-in-Plan
 returns c =
-    let at_stage = c.before.before.before.before.before in
-    rw at_stage.stage.given.1 c.step-plan.ensures
+    let at_stage = c in
+    rw at_stage.in-Plan.is c.step_plan.ensures
 
-returns-2 : tie.Need-returns-2
+returns-2 : tie.Need-returns-in-Letters
 returns-2 c =
-    let at-enum-told = c.before.before.before.before in
-    rw at-enum-told.enum_told.given.1 c.step-letters.ensures
+    let at-enum-told = c in
+    rw at-enum-told.in-Letters.is c.step_letters.ensures
 
-returns-3 : tie.Need-returns-3
-returns-3 c = rw c.enum-told2.given.1 (stays, readable_over)
+returns-3 : tie.Need-returns-in-Over
+returns-3 c = rw c.in-Over.is (stays, readable_over)
 
 pub step_spec : {M : Type 1} → statement M
 step_spec =

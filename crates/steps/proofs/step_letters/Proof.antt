@@ -7,43 +7,43 @@ use borrow.Author.Rules.{rules}
 use Rattle.steps.proofs.step_letters.Statement.{statement}
 use Rattle.steps.proofs.step_letters.Tie as tie
 
-returns : tie.Need-returns
+returns : tie.Need-returns-then-input-eq0
 returns c =
-    let at-if1 = c.before.before.before.before.before in
-    (finishes at-if1.if1.true c.finish-at.ensures, readable_over)
+    let at-if1 = c in
+    (finishes at-if1.if-input-eq0.true c.finish_at-count.ensures, readable_over)
 
-finish-at-requires-2 : tie.Need-finish-at-requires-2
+finish-at-requires-2 : tie.Need-finish_at-count-requires-in-Ended
 finish-at-requires-2 c κs =
-    let at-printed2-5 = c.before.before.before.before.before in
-    let at-feed-7 = at-printed2-5.before.before in
-    let s = at-feed-7.before.before.before.before.before.before in
-    let f = at-feed-7.feed in
-    let few = rw at-printed2-5.printed2.given.1 at f.ensures.1 in
-    omega (arith, s.requires, few, s.well_formed, f.auto.1.1.1.0)
+    let at-printed2-5 = c in
+    let at-feed-7 = at-printed2-5 in
+    let s = at-feed-7 in
+    let f = at-feed-7.feed-printed in
+    let few = rw at-printed2-5.in-Ended.is at f.ensures.1 in
+    omega (arith, s.requires, few, s.well_formed, f.auto.1)
 
-enum_told : tie.Need-enum-told
+enum_told : tie.Need-enum_told-1
 enum_told c = search rules
 
-returns-2 : tie.Need-returns-2
+returns-2 : tie.Need-returns-in-Going
 returns-2 c =
-    let at-if1 = c.before.before.before.before.before.before.before in
-    let came = at-if1.if1.false in
-    (feeds (omega (arith, came)) (rw c.before.printed.given.1 at c.before.before.before.feed.ensures.0), readable_letters)
+    let at-if1 = c in
+    let came = at-if1.if-input-eq0.false in
+    (feeds (omega (arith, came)) (rw c.in-Going.is at c.feed-printed.ensures.0), readable_letters)
 
-returns-3 : tie.Need-returns-3
+returns-3 : tie.Need-returns-in-Ended
 returns-3 c =
-    let at-printed2 = c.before.before.before.before.before.before in
-    let at-feed = at-printed2.before.before in
-    let f = at-feed.feed.ensures.0 in
-    (feeds_last (rw at-printed2.printed2.given.1 at f) c.finish-at2.ensures, readable_over)
+    let at-printed2 = c in
+    let at-feed = at-printed2 in
+    let f = at-feed.feed-printed.ensures.0 in
+    (feeds_last (rw at-printed2.in-Ended.is at f) c.finish_at-count-in-Ended.ensures, readable_over)
 
-returns-4 : tie.Need-returns-4
+returns-4 : tie.Need-returns-in-Short
 returns-4 c =
-    let s = c.before.before.before.before.before.before.before.before in
-    absurd (omega (arith, s.requires, s.well_formed, (rw c.enum_told.given.1 at c.before.before.feed.ensures.0).0))
+    let s = c in
+    absurd (omega (arith, s.requires, s.well_formed, (rw c.in-Short.is at c.feed-printed.ensures.0).0))
 
-pub step-letters-spec : {M : Type 1} → statement M
-step-letters-spec =
+pub step_letters_spec : {M : Type 1} → statement M
+step_letters_spec =
     tie.close
     (tie.spec
     (λ c κs. search rules)

@@ -144,8 +144,8 @@ returns-4 c =
     let q = at-prepared.prepared in
     let (lays, leaves) = rw (part back-19.before.before.before.before.before.before.before.before.before.before.before.before.before.before.before.before) at q.ensures in
     begun_well s.input.now
-    (is_plan back-20.before.before.before.before.before.before.before.before.before.before.before.before.before.before.before.before.before) (counted back-15.before.before.before.before.before.before.before.before.before.before.before.before.before.before) at-counts.counts-at.ensures q.result s.table.now s.rec.now q.new.1
-    q.new.1 q.new.1
+    (is_plan back-20.before.before.before.before.before.before.before.before.before.before.before.before.before.before.before.before.before) (counted back-15.before.before.before.before.before.before.before.before.before.before.before.before.before.before) at-counts.counts-at.ensures q.result s.table.now s.rec.now q.new.table
+    q.new.rec q.new.out
     (lent back-22.before.before.before.before.before.before.before.before.before.before.before.before.before.before.before.before.before.before.before) lays leaves
 
 pub begin_spec : {M : Type 1} → statement M
