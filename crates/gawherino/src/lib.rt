@@ -1,4 +1,6 @@
 // The archive for C: every call by its name in include/gawherino.h, as the crates of calls have them.
+#![tactic(auto)]
+
 ghost use Rattle.std.specs.Prelude.{◌≡◌};
 ghost use Rattle.refusals.specs.Groups.{group_of};
 ghost use Rattle.plan.specs.Bytes.{asked};

@@ -19,7 +19,7 @@ finish-at-requires-2 c κs =
     let s = at-feed-7 in
     let f = at-feed-7.feed-printed in
     let few = rw at-printed2-5.in-Ended.is at f.ensures.1 in
-    omega (arith, s.requires, few, s.well_formed, f.auto.1)
+    omega (arith, s.requires, few, s.well_formed, f.auto.out)
 
 enum_told : tie.Need-enum_told-1
 enum_told c = search rules
