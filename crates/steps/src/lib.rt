@@ -10,7 +10,7 @@ ghost use Rattle.steps.specs.Steps.{read_from, read_upto, Readable, Steps};
 use text::Printed;
 
 // Where a report stands: its plan is read up to a place, its letters are, or it is over.
-#[derive(Drop)]
+#[derive(Clone, Copy)]
 pub enum Stage {
     Plan { from: usize, upto: usize },
     Letters,
@@ -18,7 +18,7 @@ pub enum Stage {
 }
 
 // What a step answers: so many bytes are to be written, and where the report stands then.
-#[derive(Drop)]
+#[derive(Clone, Copy)]
 pub struct Next {
     pub count: usize,
     pub stage: Stage,
