@@ -15,7 +15,7 @@ fn main() {
     let archive = folder.join("libgawherino.a");
     println!("cargo:rerun-if-changed={}", archive.display());
     if !archive.exists() {
-        eprintln!("\nthere is no {}: run `rt staticlib gawherino` in the repository first", archive.display());
+        eprintln!("\nthere is no {}: run `bash tools/build.sh gawherino` in the repository first", archive.display());
         eprintln!("(or compare the reference with plain.rs alone: --no-default-features)\n");
         std::process::exit(1);
     }

@@ -6,7 +6,7 @@ cd "$(dirname "$0")/.." || exit 2
 room=$(mktemp -d) || exit 2
 trap 'rm -rf "$room"' EXIT
 archive=${GAWHERINO_STATICLIB:-target/staticlib}/libgawherino.a
-[ -f "$archive" ] || { echo "there is no $archive: run 'rt staticlib gawherino' first"; exit 2; }
+[ -f "$archive" ] || { echo "there is no $archive: run 'bash tools/build.sh gawherino' first"; exit 2; }
 
 # bound at the start, so that no call is measured with the dynamic linker's own work in it
 measure() {

@@ -28,9 +28,9 @@ trap 'rm -f "$errors"' EXIT
 echo "$program.sh: the $made is proved and built, which takes some minutes the first time" >&2
 prove() (
     set -o pipefail
-    cd "$home" && rt check "$program" 2>&1 </dev/null 3<&- | sed -u -n "/unchanged since/d; s/^rt: /$program.sh: /p"
+    cd "$home" && bash tools/build.sh "$program" </dev/null 3<&-
 )
-prove >&2 || fail "it could not be proved and built: 'rt check $program' says why"
+prove >&2 || fail "it could not be proved and built"
 
 # the program has no exit status: what it could not do is a line on its standard error
 # (a pipe that nobody reads any more is one that cannot be written: the signal is ignored, so that the program says so)

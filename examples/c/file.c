@@ -1,6 +1,6 @@
 /* Filing a plan: any plan file, in the one form in which the archive keeps it.
  *
- *     rt staticlib gawherino && gcc -std=c99 -Iinclude examples/c/file.c target/staticlib/libgawherino.a -o file
+ *     bash tools/build.sh gawherino && gcc -std=c99 -Iinclude examples/c/file.c target/staticlib/libgawherino.a -o file
  *     ./file < drawn.plan > filed.plan        # cmp tells whether two drawings are one plan
  *     ./file --sample                         # two drawings of plan G of document 01 are filed alike
  *

@@ -9,7 +9,7 @@
  * taken up again from the slots and must end with the bookings and the record of a walk without a cut. Then a record without slots is
  * torn, and it is shown that a torn one may pass. The exit status is 0 only if all of it comes out as expected.
  *
- *     rt staticlib gawherino && gcc -std=c99 -Iinclude examples/c/restart.c target/staticlib/libgawherino.a -o restart && ./restart
+ *     bash tools/build.sh gawherino && gcc -std=c99 -Iinclude examples/c/restart.c target/staticlib/libgawherino.a -o restart && ./restart
  */
 #include "gawherino.h"
 

@@ -2,7 +2,7 @@
  * has no look-ahead, and its check; a refused plan. It prints what the report would print for plan A and three legs of code 0.
  * Its exit status is 0 only if every answer is the expected one.
  *
- *     rt staticlib gawherino && gcc -std=c99 -Iinclude examples/c/walk.c target/staticlib/libgawherino.a -o walk && ./walk
+ *     bash tools/build.sh gawherino && gcc -std=c99 -Iinclude examples/c/walk.c target/staticlib/libgawherino.a -o walk && ./walk
  */
 #include "gawherino.h"
 

@@ -33,7 +33,7 @@ impl Program {
             Some(path) => PathBuf::from(path),
             None => PathBuf::from(env!("CARGO_MANIFEST_DIR")).join("../target/bin").join(name),
         };
-        assert!(path.is_file(), "there is no {}: run `rt check {name}` in the repository first, or set {variable}", path.display());
+        assert!(path.is_file(), "there is no {}: run `bash tools/build.sh {name}` in the repository first, or set {variable}", path.display());
         path
     }
 
