@@ -10,6 +10,7 @@ pub mod Decide
 pub mod Wide
 pub mod Computed
 pub mod Positions
+pub mod Doubts
 pub mod Waiting
 pub mod Selectors
 pub mod Successors

@@ -26,45 +26,31 @@ Inv₁ needs₀ lifetimes sets n m reached q₀ rules q = (q ≤ n) × ForksEnte
 abbrev μ₁ : tie.decreases-loop-q
 μ₁ needs₀ lifetimes sets n m reached q₀ rules q = n - q
 
-abbrev start : tie.In-loop-q Inv₂ μ₂ Inv₁ μ₁ → tie.Start Inv₂ μ₂ Inv₁ μ₁
-start c = c.before.before.before.before
-
-abbrev turn : tie.In-loop-a Inv₂ μ₂ Inv₁ μ₁ → tie.In-loop-q Inv₂ μ₂ Inv₁ μ₁
-turn c = c.before.before.before
-
 state : (c : tie.In-loop-q Inv₂ μ₂ Inv₁ μ₁) → c.loop-q.q < 64
-state c = omega (arith, (start c).requires.0.states)
+state c = omega (arith, c.requires.0.states)
 
 module _ (c : tie.In-loop-a Inv₂ μ₂ Inv₁ μ₁) where
-  small : place (start (turn c)).args.m (turn c).loop-q.q c.loop-a.a < 2048
-  small = let f = (start (turn c)).requires.0 in place_small f.states f.letters _ _ (turn c).loop-q-test.true c.loop-a-test.true
+  small : place c.args.m c.loop-q.q c.loop-a.a < 2048
+  small = let f = c.requires.0 in place_small f.states f.letters _ _ c.loop-q-test.true c.loop-a-test.true
 
-  within : place (start (turn c)).args.m (turn c).loop-q.q c.loop-a.a < length (start (turn c)).args.sets.now
-  within = place_in (start (turn c)).requires.0 _ _ (turn c).loop-q-test.true c.loop-a-test.true
+  within : place c.args.m c.loop-q.q c.loop-a.a < length c.args.sets.now
+  within = place_in c.requires.0 _ _ c.loop-q-test.true c.loop-a-test.true
 
-  room : place (start (turn c)).args.m (turn c).loop-q.q c.loop-a.a + 1 < length c.loop-a.needs
+  room : place c.args.m c.loop-q.q c.loop-a.a + 1 < length c.loop-a.needs
   room =
       omega (
         arith,
-        place_lt _ _ _ _ (turn c).loop-q-test.true c.loop-a-test.true,
+        place_lt _ _ _ _ c.loop-q-test.true c.loop-a-test.true,
         c.loop-a.invariant.1.long,
-        (turn c).loop-q.invariant.1.long,
-        (start (turn c)).requires.1,
+        c.loop-q.invariant.1.long,
+        c.requires.1,
       )
-
-loop2-again : tie.Need-loop-a-preserved Inv₂ μ₂ Inv₁ μ₁
-loop2-again c =
-    let t = c in
-    let (_, k) = t.loop-a.invariant in (
-      omega arith,
-      forks_next _ _ _ (omega arith) t.loop-a-test.true (room t.before.before) (rw t.contains-counts.ensures at c.entry.ensures) k,
-    )
 
 -- every letter of q is passed
 loop-again : tie.Need-loop-q-preserved Inv₂ μ₂ Inv₁ μ₁
 loop-again c =
     let l = c.loop-a in
-    let e : l.a ≡ (start c.before.before.before).args.m = omega arith in
+    let e : l.a ≡ c.args.m = omega arith in
     (omega arith, forks_rows _ c.loop-q.invariant.1 (rw e at l.invariant.1))
 
 pub enter_forks_spec : {M : Type 1} → statement M
@@ -91,7 +77,9 @@ enter_forks_spec =
     (λ c. room c.before.before)
     (λ c. omega arith)
     (λ c. omega arith)
-    loop2-again
+    (λ c.
+    let (_, k) = c.loop-a.invariant in
+    (omega arith, forks_next _ _ _ (omega arith) c.loop-a-test.true (room c.before.before) (rw c.contains-counts.ensures at c.entry.ensures) k))
     (λ c. omega arith)
     (λ c. omega arith)
     loop-again
