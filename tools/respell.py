@@ -14,8 +14,7 @@ import re
 ID = r"[^\s(){}\[\],;.:«»\"`]+"
 # where a definition and a lemma would have one name, or a name would be hidden by a local one
 APART = {
-    "of-needs": "needs_theorems",
-    "of-pages": "pages_theorems",
+    "of-needs": "of_needs",
     "same_line": "same_line_lem",
     "at_front": "at_front_lem",
     "in_order": "in_order_lem",
@@ -23,6 +22,10 @@ APART = {
     "bit-of": "bit_of_lem",
     "line-at": "line_at_lem",
 }
+
+
+# the modules of theorems that crate plan_calls imports by a name of its own
+MODULES = {"of-needs": "needs_theorems", "of-pages": "pages_theorems"}
 
 
 def files():
@@ -82,7 +85,7 @@ def table():
     for new, olds in by_new.items():
         if len(olds) > 1:
             for old in olds:
-                if "-" in old:
+                if "-" in old and old not in APART:
                     to[old] = new + "_lem"
     return to
 
@@ -108,7 +111,8 @@ def code(text, to, comment):
 def main():
     to = table()
     for p in list(files()):
-        write(p, lambda t: code(t, to, "--"))
+        here = to | MODULES if p.startswith("crates/plan_calls/") else to
+        write(p, lambda t: code(t, here, "--"))
     for p in glob.glob("crates/*/src/*.rt"):
         write(p, lambda t: code(t, to, "//"))
     for p in glob.glob("crates/*/must-fail/*.edit"):

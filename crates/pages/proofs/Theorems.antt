@@ -181,9 +181,9 @@ module _ (A : Asked) (P : Proper A) where
     theorems : Theorems A p.numbers (take count out)
     theorems = rw at_front_lem (theorems_of passes p.numbers (p.tells passes))
 
-    needs_theorems : (entries : ℕ) (old' needs : List ℕ) → NeedsOf A (Entries entries) old' needs
+    of_needs : (entries : ℕ) (old' needs : List ℕ) → NeedsOf A (Entries entries) old' needs
         → take count out ≡ page A.means (take entries needs)
-    needs_theorems entries old' needs n =
+    of_needs entries old' needs n =
         rw (at_front_lem, same_numbers p passes (take entries needs) ((needs-met A P).written entries old' needs n).tells)
 
   answers : Passes A → (numbers : List ℕ) → TellsNeeds A.means numbers → (a : Page) (old out : List ℕ)
@@ -232,6 +232,6 @@ met A P = record {
   answers = answers A P;
   enough = enough A P;
   written = λ count old out p. (p.numbers, theorems A P count old out p);
-  needs_theorems = λ count entries old out old' needs p n. needs_theorems A P count old out p entries old' needs n;
+  of_needs = λ count entries old out old' needs p n. of_needs A P count old out p entries old' needs n;
   same = same A P;
 }

@@ -61,7 +61,7 @@ pub record Calls (A : Asked) : Type 0 where
   -- what stands at the front of the lent bytes is what the theorems above speak of
   pub written : (count : ℕ) (old out : List ℕ) → PageOf A (Bytes count) old out → (numbers : List ℕ) × Theorems A numbers (take count out)
   -- it is the page of the numbers that the call for the needs writes
-  pub needs_theorems : (count entries : ℕ) (old out old' needs : List ℕ) → PageOf A (Bytes count) old out → NeedsOf A (Entries entries) old' needs
+  pub of_needs : (count entries : ℕ) (old out old' needs : List ℕ) → PageOf A (Bytes count) old out → NeedsOf A (Entries entries) old' needs
       → take count out ≡ page A.means (take entries needs)
   -- two calls answer the same and leave the same
   pub same : (a b : Page) (old out out' : List ℕ) → PageOf A a old out → PageOf A b old out'

@@ -108,7 +108,7 @@ needed_page : (A : Asked) (P : Proper A) (old out : List ℕ) (count : ℕ) → 
     → (answer : ℕ) (old' needs : List ℕ) (a : Needs) → NeedsOf A a old' needs → answer ≡ (of_needs a).first → answer < 65536
     → take count out ≡ page A.means (take answer needs)
 needed_page A P old out count q answer old' needs (told.Entries entries) d e h =
-    rw e ((pages-met A P).needs_theorems count entries old out old' needs q d)
+    rw e ((pages-met A P).of_needs count entries old out old' needs q d)
 needed_page A P old out count q answer old' needs (told.Refused x) d e h = absurd (omega arith)
 
 -- WHAT A LOOK-AHEAD IS ANSWERED WITH, in numbers
