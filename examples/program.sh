@@ -26,14 +26,10 @@ errors=$(mktemp) || exit 1
 trap 'rm -f "$errors"' EXIT
 
 echo "$program.sh: the $made is proved and built, which takes some minutes the first time" >&2
-prove() (
-    set -o pipefail
-    cd "$home" && bash tools/build.sh "$program" </dev/null 3<&-
-)
-prove >&2 || fail "it could not be proved and built"
+(cd "$home" && bash tools/build.sh "$program" </dev/null 3<&-) >&2 || fail "it could not be proved and built"
 
 # the program has no exit status: what it could not do is a line on its standard error
-# (a pipe that nobody reads any more is one that cannot be written: the signal is ignored, so that the program says so)
+# (a pipe that nobody reads any more is one that cannot be written, which the program says: the signal is ignored, by the program too)
 (trap '' PIPE && exec "$home/target/bin/$program") <&3 2>"$errors"
 status=$?
 [ ! -s "$errors" ] || { cat "$errors" >&2; status=1; }

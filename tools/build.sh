@@ -5,7 +5,7 @@
 #   bash tools/build.sh NAME..      of these, gawherino, report or page alone
 #
 # What is proved already is not proved again. The toolchain builds a program only to run it, so each is run once, on no input.
-set -u
+set -uo pipefail
 cd "$(dirname "$0")/.." || exit 2
 command -v rt >/dev/null || { echo "build.sh: there is no rt: the Rattle toolchain is needed" >&2; exit 1; }
 log=$(mktemp) || exit 2
@@ -13,7 +13,8 @@ trap 'rm -f "$log"' EXIT
 
 make() { # the crate, the command that builds it, what it leaves in out/, the folder under target/
     local crate=$1 command=$2 made=$3 folder=target/$4
-    (cd "crates/$crate" && rt "$command" </dev/null) >"$log" 2>&1 || { cat "$log" >&2; echo "build.sh: $crate could not be proved and built" >&2; exit 1; }
+    # the functions that are proved are shown as they come
+    (cd "crates/$crate" && rt "$command" </dev/null 2>&1 | tee "$log" | sed -u -n 's/^checked /build.sh: checked /p' >&2) || { cat "$log" >&2; echo "build.sh: $crate could not be proved and built" >&2; exit 1; }
     mkdir -p "$folder" && cp "crates/$crate/out/$made" "$folder/" || exit 1
 }
 
