@@ -5,4 +5,5 @@ pub mod Walking
 pub mod Endings
 pub mod Minimality
 pub mod Naming
+pub mod Along
 pub mod Theorems

@@ -4,20 +4,20 @@ use Prim.Native.Nat.{ℕ, suc, ◌^◌, ◌≤◌, ◌<◌}
 use mathlib.Core.Bool.{Bool, true, false, not, false≢true}
 use mathlib.Core.Option.{some}
 use mathlib.Core.Logic.{◌↔◌}
-use mathlib.Core.Path.{◌≡◌, refl, sym, ◌∙◌, ap}
+use mathlib.Core.Path.{◌≡◌, sym, ◌∙◌, ap}
 use mathlib.Core.List.{List, [], ◌∷◌}
 use native.Mathlib.Omega.{arith}
 use lib.Count.{ones-le}
 use lib.Dec.{leb}
 use lib.ListN.{length, get_or, take, drop, length-append, length-drop}
 use lib.Pow.{pow_pos}
-use lib.Seq.{drop_at, drop-length, length-take-le, take-take}
+use lib.Seq.{drop_at, take-take}
 use borrow.Author.Tests.{le-ltb, ltb-false, leb-false, not-false}
 use Rattle.bitset.specs.Sets.{size}
 use Rattle.bitset.specs.Numbers.{has, set_of}
 use Rattle.bitset.proofs.Tests.{not_so, same_test, or_none}
 use Rattle.bitset.proofs.Below.{any_in, any_out}
-use Rattle.bitset.proofs.Bits.{has_empty, has_lt, same_members, some_member, set_of_cong, set_of_has}
+use Rattle.bitset.proofs.Bits.{has_empty, has_lt, some_member, set_of_cong, set_of_has}
 use Rattle.bitset.proofs.Members.{ones_size}
 use Rattle.semiautomata.specs.Semiautomaton.{Semiautomaton, Within, Path, Spells}
 use Rattle.semiautomata.specs.Predictability.{Critical, member, named}
@@ -46,6 +46,7 @@ use Rattle.simulate.specs.Theorems.{Theorems}
 use Rattle.simulate.proofs.Sets.{stands}
 use Rattle.simulate.proofs.Stepping.{along_is, step_passes, steps_on}
 use Rattle.simulate.proofs.Positions.{traced_length, traced_stands}
+use Rattle.simulate.proofs.Along.{LastShown, last_shown}
 
 pub one_set : (n : ℕ) (P : ℕ → Type 0) (a b : ℕ) → Stands n P a → Stands n P b → a ≡ b
 one_set n P a b s t =
@@ -139,9 +140,9 @@ walk_along : (table word : List ℕ) (g : ℕ) (old out : List ℕ) → Walks ta
     → (i last : ℕ) → i ≤ length word → StepsAlong table (initial_of table) (take i word) last
     → ((i ≤ g) ↔ ¬ (last ≡ 0))
     × (i ≤ g → (x : ℕ) → (has (get_or out i 0) x ≡ true) ↔ ((has last x ≡ true) × Spells (table_meaning table) x (drop i (take g word))))
-    × (i ≡ g → last ≡ get_or out g 0)
+    × LastShown i g last out
 unfolding walk_refusal
-walk_along table word g old out c i last h steps = ((from, into), of_those, there)
+walk_along table word g old out c i last h steps = ((from, into), of_those, last_shown S word g i last out l of_those)
   where
     S : Semiautomaton
     S = table_meaning table
@@ -186,13 +187,6 @@ walk_along table word g old out c i last h steps = ((from, into), of_those, ther
         let (x, _, e) = any_out S.n (has last) (some_member S.n last (omega (arith, n)) led.fits) in
         let q = (led.is x).0 e in
         l.most i h (record { start = q.start; from_it = q.from_it; spells = (x, q.path) })
-
-    there : i ≡ g → last ≡ get_or out g 0
-    there e =
-        let long : length (take g word) ≡ i = length-take-le g word l.fits ∙ sym e in
-        let end : drop i (take g word) ≡ [] = rw long at (drop-length (take g word)) in
-        rw (← e) (same_members last (get_or out i 0) (λ x. let (p, q) = of_those (omega arith) x in
-        same_test _ _ (λ d. q (d, rw end (x, refl))) (λ d. (p d).0)))
 
 -- VERDICTS
 
