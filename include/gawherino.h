@@ -1,4 +1,4 @@
-/* Gawherino for C: every call on plans, tables and records, over plain numbers and lent slices. Version 3.0.0.
+/* Gawherino for C: every call on plans, tables and records, over plain numbers and lent slices. Version 3.0.1.
  *
  * USE. The plan's bytes are in plan; the logger gives one code for each leg. No call allocates, so room is lent:
  *
@@ -45,7 +45,7 @@ extern "C" {
  * number, a further call the second. */
 #define GAWHERINO_VERSION_MAJOR 3
 #define GAWHERINO_VERSION_MINOR 0
-#define GAWHERINO_VERSION_PATCH 0
+#define GAWHERINO_VERSION_PATCH 1
 
 /* ANSWERS */
 
@@ -145,21 +145,21 @@ static inline uint32_t gawherino_refusal(uint32_t answer)
 /* Bytes of stack that a call took at most where conformance/stack.sh measured it, rounded up; the greatest of them. Where memcpy, memmove
  * or memset is bound at its first call, the dynamic linker's stack comes on top. */
 #define GAWHERINO_STACK_READ 33280u
-#define GAWHERINO_STACK_PREPARE 45056u
-#define GAWHERINO_STACK_LOOK_AHEAD 45056u
-#define GAWHERINO_STACK_COUNT 49152u
+#define GAWHERINO_STACK_PREPARE 45568u
+#define GAWHERINO_STACK_LOOK_AHEAD 45568u
+#define GAWHERINO_STACK_COUNT 49664u
 #define GAWHERINO_STACK_CHECK 33280u
 #define GAWHERINO_STACK_WRITE 35328u
-#define GAWHERINO_STACK_NEEDS 44544u
-#define GAWHERINO_STACK_PAGE 48640u
+#define GAWHERINO_STACK_NEEDS 45056u
+#define GAWHERINO_STACK_PAGE 49152u
 #define GAWHERINO_STACK_STEP 256u
 #define GAWHERINO_STACK_WALK 256u
-#define GAWHERINO_STACK_JUDGE 512u
+#define GAWHERINO_STACK_JUDGE 256u
 #define GAWHERINO_STACK_OPEN 256u
 #define GAWHERINO_STACK_FEED 256u
 #define GAWHERINO_STACK_FINISH 16384u
 #define GAWHERINO_STACK_GROUP 256u
-#define GAWHERINO_MAX_STACK 49152u
+#define GAWHERINO_MAX_STACK 49664u
 
 /* FORMS
  *

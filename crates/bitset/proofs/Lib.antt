@@ -1,5 +1,5 @@
 pub mod Tests
 pub mod Below
 pub mod Bits
-pub mod Members
+pub mod Counts
 pub mod Taking

@@ -12,10 +12,11 @@ use lib.Pow.{pow_mono}
 use borrow.Author.Tests.{eqb-true}
 use Rattle.bitset.specs.Sets.{any, size}
 use Rattle.bitset.specs.Numbers.{has, set_of}
+use Rattle.bitset.specs.Members.{Taken}
 use Rattle.bitset.proofs.Tests.{and_in, and_out}
 use Rattle.bitset.proofs.Below.{any_in, any_none, any_cong, any_add}
-use Rattle.bitset.proofs.Bits.{has_or, has_empty, has_high, has_lt, fits, has_insert, is_set_of, and_fits}
-use Rattle.bitset.proofs.Members.{ones_size, trailing_member, has_strike, ones_strike}
+use Rattle.bitset.proofs.Bits.{has_or, has_empty, has_high, has_lt, fits, has_insert, is_set_of, same_members}
+use Rattle.bitset.proofs.Counts.{ones_size, trailing_least, trailing_member, has_strike, ones_strike}
 
 -- WHAT HOLDS BETWEEN TWO TURNS: `-first` before the first, `-next` after one more, `-all` what it comes to
 
@@ -79,69 +80,70 @@ at_one z k q = go (eqb z k) refl
     go true e = rw (eqb-true z k e)
     go false e = rw e
 
-module _ {n set rest : ℕ} (l : Left n set rest) (p : 0 < rest) where
+module _ {n set rest s left : ℕ} (l : Left n set rest) (t : Taken rest s left) where
   in_word : rest < 2 ^ 64
   in_word = lt_of_lt_of_le l.below (pow_mono l.width)
 
-  least_left : has rest (count_trailing_zeros 64 rest) ≡ true
-  least_left = trailing_member 64 rest p in_word
+  is_trailing : s ≡ count_trailing_zeros 64 rest
+  is_trailing = t.is ∙ sym (trailing_least 64 rest)
 
-  pub least_in : has set (count_trailing_zeros 64 rest) ≡ true
-  least_in = l.inside _ least_left
+  least_left : has rest s ≡ true
+  least_left = rw is_trailing (trailing_member 64 rest t.some in_word)
 
-  pub least_below : count_trailing_zeros 64 rest < n
-  least_below = has_lt n rest _ l.below least_left
+  pub next_in : has set s ≡ true
+  next_in = l.inside _ least_left
 
-  pub left_next : Left n set (bit_and rest (rest - 1))
+  pub next_below : s < n
+  next_below = has_lt n rest _ l.below least_left
+
+  others_in : (k : ℕ) → has left k ≡ true → has rest k ≡ true
+  others_in k e = (and_out (has rest k) _ (sym (t.others k) ∙ e)).0
+
+  pub left_next : Left n set left
   left_next = record {
     width = l.width;
     whole = l.whole;
-    below = and_fits n rest (rest - 1) l.below;
-    inside = λ k e. l.inside k (and_out (has rest k) _ (rw (has_strike 64 rest k in_word) at e)).0;
+    below = fits n left (λ k h. rw (t.others k, has_high n rest k l.below h) refl);
+    inside = λ k e. l.inside k (others_in k e);
   }
 
   -- taken: before, or as the least of the rest
-  pub taken_with : (k : ℕ) → taken set (bit_and rest (rest - 1)) k ≡ (taken set rest k || eqb (count_trailing_zeros 64 rest) k)
-  taken_with k =
-      let z = count_trailing_zeros 64 rest in
-      rw (has_strike 64 rest k in_word) (struck (has set k) (has rest k) (eqb z k) (λ e. rw (eqb-true z k e) at least_in))
+  pub taken_with : (k : ℕ) → taken set left k ≡ (taken set rest k || eqb s k)
+  taken_with k = rw (t.others k) (struck (has set k) (has rest k) (eqb s k) (λ e. rw (eqb-true s k e) at next_in))
 
   -- and passing q
-  taken_next : (q : ℕ → Bool) (k : ℕ)
-      → (taken set (bit_and rest (rest - 1)) k && q k)
-      ≡ (taken set rest k && q k || eqb (count_trailing_zeros 64 rest) k && q (count_trailing_zeros 64 rest))
-  taken_next q k = rw (taken_with k, and-or_distrib_right, at_one (count_trailing_zeros 64 rest) k q)
+  taken_next : (q : ℕ → Bool) (k : ℕ) → (taken set left k && q k) ≡ (taken set rest k && q k || eqb s k && q s)
+  taken_next q k = rw (taken_with k, and-or_distrib_right, at_one s k q)
 
   -- some number taken passes q: one taken before, or the least of the rest
-  pub any_next : (q : ℕ → Bool)
-      → any n (λ k. taken set (bit_and rest (rest - 1)) k && q k) ≡ (any n (λ k. taken set rest k && q k) || q (count_trailing_zeros 64 rest))
-  any_next q = any_cong n _ _ (λ k _. taken_next q k) ∙ any_add n _ _ _ least_below
+  pub any_next : (q : ℕ → Bool) → any n (λ k. taken set left k && q k) ≡ (any n (λ k. taken set rest k && q k) || q s)
+  any_next q = any_cong n _ _ (λ k _. taken_next q k) ∙ any_add n _ _ _ next_below
 
-  pub passed_next : {q : ℕ → Bool} → q (count_trailing_zeros 64 rest) ≡ false → Passed set rest q → Passed set (bit_and rest (rest - 1)) q
+  pub passed_next : {q : ℕ → Bool} → q s ≡ false → Passed set rest q → Passed set left q
   passed_next {q} e o = record { fails = λ k. rw (taken_next q k, o.fails k, e, and-false) }
 
   -- or the search ends
-  pub passed_hit : (q : ℕ → Bool) → q (count_trailing_zeros 64 rest) ≡ true → any n (λ k. has set k && q k) ≡ true
-  passed_hit q e = any_in n _ _ least_below (and_in _ _ least_in e)
+  pub passed_hit : (q : ℕ → Bool) → q s ≡ true → any n (λ k. has set k && q k) ≡ true
+  passed_hit q e = any_in n _ _ next_below (and_in _ _ next_in e)
 
-  pub picked_with : {q : ℕ → Bool} {out : ℕ} → q (count_trailing_zeros 64 rest) ≡ true → Picked set rest q out
-      → Picked set (bit_and rest (rest - 1)) q (bit_or out ((1 * 2 ^ count_trailing_zeros 64 rest) % 2 ^ 64))
+  pub picked_with : {q : ℕ → Bool} {out : ℕ} → q s ≡ true → Picked set rest q out → Picked set left q (bit_or out ((1 * 2 ^ s) % 2 ^ 64))
   picked_with {q} e o = record {
-    members = λ k. rw (has_insert 64 _ _ k (lt_of_lt_of_le least_below l.width), o.members k, taken_next q k, e, and-true);
+    members = λ k. rw (has_insert 64 _ _ k (lt_of_lt_of_le next_below l.width), o.members k, taken_next q k, e, and-true);
   }
 
-  pub picked_without : {q : ℕ → Bool} {out : ℕ} → q (count_trailing_zeros 64 rest) ≡ false → Picked set rest q out
-      → Picked set (bit_and rest (rest - 1)) q out
+  pub picked_without : {q : ℕ → Bool} {out : ℕ} → q s ≡ false → Picked set rest q out → Picked set left q out
   picked_without {q} e o = record { members = λ k. rw (taken_next q k, e, and-false, or-false) (o.members k) }
 
-  pub joined_next : {f : ℕ → ℕ} {out : ℕ} → Joined n set rest f out
-      → Joined n set (bit_and rest (rest - 1)) f (bit_or out (f (count_trailing_zeros 64 rest)))
+  pub joined_next : {f : ℕ → ℕ} {out : ℕ} → Joined n set rest f out → Joined n set left f (bit_or out (f s))
   joined_next {f} j = record {
-    members = λ t. rw (has_or, j.members t) (sym (any_next (λ s. has (f s) t)));
+    members = λ k. rw (has_or, j.members k) (sym (any_next (λ x. has (f x) k)));
   }
 
-  pub counted_next : {turns : ℕ} → Counted set rest turns → Counted set (bit_and rest (rest - 1)) (turns + 1)
-  counted_next c = record { sum = omega (arith, ones_strike n rest p l.below, c.sum) }
+  struck_out : left ≡ bit_and rest (rest - 1)
+  struck_out = same_members _ _ (λ k. rw (has_strike 64 rest k in_word, ← is_trailing) (t.others k))
+
+  pub counted_next : {turns : ℕ} → Counted set rest turns → Counted set left (turns + 1)
+  counted_next c = record { sum = rw struck_out (omega (arith, ones_strike n rest t.some l.below, c.sum)) }
 
 -- WHEN NONE IS LEFT
 

@@ -31,3 +31,39 @@ pub fn singleton(s: u32) -> u64
 {
     if s < 64 { 1 << s } else { 0 }
 }
+
+// The members of a set, ascending: the least is taken and struck out, until none is left.
+#[derive(Drop)]
+pub struct Members {
+    pub rest: u64,
+}
+
+impl Members {
+    #[inline(always)]
+    pub fn of(set: u64) -> Members
+        ensures { result.rest ≡ set }
+    {
+        Members { rest: set }
+    }
+}
+
+impl Iterator for Members {
+    ghost use Rattle.std.specs.Iterator.{at_most};
+    ghost use Rattle.bitset.specs.Members.{Takes};
+
+    type Item = usize;
+
+    ghost next_gives = { Takes };
+
+    ghost remaining = { λ s. at_most s.rest };
+
+    #[inline(always)]
+    fn next(&mut self) -> Option<usize> {
+        if self.rest == 0 {
+            return None;
+        }
+        let least = u64::trailing_zeros(self.rest) as usize;
+        self.rest &= self.rest - 1;
+        Some(least)
+    }
+}

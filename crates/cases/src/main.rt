@@ -3,45 +3,40 @@
 // `stdout` is written from document 01, D's line from document 02 (W-202); crates/demand proves the same of the definitions.
 #![tactic(auto)]
 
-use claim::Checked;
-use deciding::Answer;
+use bitset::Members;
 use lookahead::Evidence;
-use prepare::Prepared;
-use simulate::{Judged, Walked};
+use prepare::Unprepared;
+use refusals::Refusal;
 use std::io::Write;
 
+// What cannot be written is missing in what is compared.
 fn say(rt: &HostRuntime, text: &[u8]) {
-    match rt.stdout().write_all(text) {
-        Ok(()) => {}
-        Err(_) => {} // what cannot be written is missing in what is compared
-    }
+    let _ = rt.stdout().write_all(text);
 }
 
 fn say_number(rt: &HostRuntime, text: &[u8], number: u64) {
     say(rt, text);
     say(rt, b" ");
-    match print!(rt; "{number}") {
-        Ok(()) => {}
-        Err(_) => {}
-    }
+    let _ = print!(rt; "{number}");
+}
+
+fn say_refused(rt: &HostRuntime, r: Refusal) {
+    say_number(rt, b" refused", u64::from(r.number()));
 }
 
 // The members of a set, ascending.
 fn say_set(rt: &HostRuntime, set: u64) {
-    for s in 0..64 {
-        if bitset::contains(set, s) {
-            say_number(rt, b"", s as u64);
-        }
+    for s in Members::of(set) {
+        say_number(rt, b"", s as u64);
     }
 }
 
 // What the check says of evidence.
 fn say_checked(rt: &HostRuntime, plan: &[u8], e: Evidence, letters: &[u8]) {
-    let checked = claim::check(plan, 0, e, letters);
-    match checked {
-        Checked::Yes => say(rt, b" evidence yes"),
-        Checked::No => say(rt, b" evidence no"),
-        Checked::Refused(r) => say_number(rt, b" evidence refused", r as u64),
+    match claim::check(plan, 0, e, letters) {
+        Ok(true) => say(rt, b" evidence yes"),
+        Ok(false) => say(rt, b" evidence no"),
+        Err(r) => say_number(rt, b" evidence refused", u64::from(r.number())),
     }
 }
 
@@ -49,11 +44,10 @@ fn say_checked(rt: &HostRuntime, plan: &[u8], e: Evidence, letters: &[u8]) {
 fn say_prepared(rt: &HostRuntime, name: &[u8], plan: &[u8], table: &mut [u64]) {
     let mut letters = [0u8; 4096];
     say(rt, name);
-    let prepared = prepare::prepare(plan, 0, table, &mut letters);
-    match prepared {
-        Prepared::Ready(k) => say_number(rt, b" look-ahead", k as u64),
-        Prepared::Refused(r) => say_number(rt, b" refused", r as u64),
-        Prepared::Unpredictable(e) => {
+    match prepare::prepare(plan, 0, table, &mut letters) {
+        Ok(k) => say_number(rt, b" look-ahead", k as u64),
+        Err(Unprepared::Refused(r)) => say_refused(rt, r),
+        Err(Unprepared::Unpredictable(e)) => {
             say_number(rt, b" refused", 15);
             say_checked(rt, plan, e, &letters);
         }
@@ -62,10 +56,9 @@ fn say_prepared(rt: &HostRuntime, name: &[u8], plan: &[u8], table: &mut [u64]) {
 
 // The verdict on a word for what a state and a letter lead to.
 fn say_judged(rt: &HostRuntime, table: &[u64], state: u32, letter: u32, word: &[u8]) {
-    let judged = simulate::judge(table, state, letter, word);
-    match judged {
-        Judged::Refused(r) => say_number(rt, b" refused", r as u64),
-        Judged::Told(v) => {
+    match simulate::judge(table, state, letter, word) {
+        Err(r) => say_refused(rt, r),
+        Ok(v) => {
             if v.minimal {
                 say(rt, b" minimal selector of");
                 say_set(rt, v.survivors);
@@ -78,25 +71,18 @@ fn say_judged(rt: &HostRuntime, table: &[u64], state: u32, letter: u32, word: &[
     }
 }
 
-fn say_position(rt: &HostRuntime, position: u64, set: u64) {
-    say_number(rt, b" at", position);
-    say(rt, b":");
-    say_set(rt, set);
-}
-
 // The possible states at each position of a walk of at most two letters.
 fn say_walked(rt: &HostRuntime, table: &[u64], word: &[u8]) {
     let mut sets = [0u64; 3];
-    let walked = simulate::walk(table, word, &mut sets);
-    match walked {
-        Walked::Refused(r) => say_number(rt, b" refused", r as u64),
-        Walked::Upto(g) => {
-            say_position(rt, 0, sets[0]);
-            if 1 <= g {
-                say_position(rt, 1, sets[1]);
-            }
-            if 2 <= g {
-                say_position(rt, 2, sets[2]);
+    match simulate::walk(table, word, &mut sets) {
+        Err(r) => say_refused(rt, r),
+        Ok(g) => {
+            for (position, set) in sets.iter().enumerate() {
+                if position <= g {
+                    say_number(rt, b" at", position as u64);
+                    say(rt, b":");
+                    say_set(rt, *set);
+                }
             }
         }
     }
@@ -104,11 +90,10 @@ fn say_walked(rt: &HostRuntime, table: &[u64], word: &[u8]) {
 
 fn say_opened(rt: &HostRuntime, table: &[u64]) {
     let mut rec = [0u8; 8];
-    let opened = predictor::open(table, &mut rec);
-    match opened {
-        Answer::Refused(r) => say_number(rt, b" opening refused", r as u64),
-        Answer::Resolved { position, state } => say_number(rt, b" opening at stake", state as u64),
-        Answer::Nothing => say(rt, b" opening nothing"),
+    match predictor::open(table, &mut rec) {
+        Err(r) => say_number(rt, b" opening refused", u64::from(r.number())),
+        Ok(Some(resolved)) => say_number(rt, b" opening at stake", u64::from(resolved.state)),
+        Ok(None) => say(rt, b" opening nothing"),
     }
 }
 

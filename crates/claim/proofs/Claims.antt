@@ -1,38 +1,42 @@
 -- Claims that a plan has no look-ahead: the set that is named, cycles that lead back, and what the parts of a claim come to.
 -- Assumes nothing.
-use Prim.Native.Nat.{ℕ, ◌+◌, ◌-◌, ◌*◌, ◌%◌, ◌^◌, ◌≤◌, ◌<◌}
+use Prim.Native.Nat.{ℕ, ◌+◌, ◌*◌, ◌^◌, ◌≤◌, ◌<◌}
 use mathlib.Core.Bool.{Bool, true, false, not, ◌&&◌, ◌||◌, true≢false, false≢true, and-true, and-false}
 use mathlib.Core.Option.{some, some-injective}
 use mathlib.Core.Path.{◌≡◌, refl, sym, ◌∙◌, subst, fun_ext}
 use mathlib.Core.Logic.{◌↔◌, inl, inr}
-use mathlib.Core.List.{List, [], ◌∷◌, ◌++◌}
+use mathlib.Core.List.{List, ◌++◌}
 use native.Mathlib.Omega.{arith}
 use lib.Bits.{bit_and}
 use lib.Dec.{eqb, ltb, leb}
 use lib.ListN.{length, take, drop, length-drop}
 use lib.Pow.{pow-lt}
-use lib.Seq.{length-take-le, get_or-take, get_or-drop, take-add}
-use borrow.Author.Tests.{lt-ltb, le-ltb, ltb-false, lt-leb, leb-true, leb-false, eq-eqb, ne_eqb, eqb-true, eqb-false, not-false}
+use lib.Seq.{length-take-le, take-add, take_at}
+use Rattle.std.proofs.lemmas.List.{drop-take}
+use borrow.Author.Tests.{lt-ltb, le-ltb, ltb-false, leb-true, leb-false, eq-eqb, eqb-true, eqb-false, not-false}
 use Rattle.bitset.specs.Sets.{any, single}
 use Rattle.bitset.specs.Numbers.{has, set_of}
 use Rattle.bitset.proofs.Tests.{and_in, and_out, or_cases, decided, or_none}
 use Rattle.bitset.proofs.Below.{any_in, any_not, with_any}
 use Rattle.bitset.proofs.Bits.{has_empty, has_lt, set_of_lt, has_set_of, pow_set_of, has_shl, meets_none, meets_some}
-use Rattle.semiautomata.specs.Semiautomaton.{Semiautomaton, Within, Path}
-use Rattle.semiautomata.specs.Predictability.{Critical, initial, fork, member, named, Counts, Lasso}
+use Rattle.semiautomata.specs.Semiautomaton.{Semiautomaton, Within}
+use Rattle.semiautomata.specs.Predictability.{Critical, fork, member, named, Counts, Lasso}
 use Rattle.semiautomata.specs.Access.{accessible}
 use Rattle.semiautomata.specs.Walks.{reach}
-use Rattle.semiautomata.specs.Successors.{set_at, successors, Fit}
+use Rattle.semiautomata.specs.Successors.{set_at}
+use Rattle.semiautomata.specs.Means.{means}
+use Rattle.semiautomata.specs.declared.successors.Successors.{Successors}
 use Rattle.semiautomata.proofs.Paths.{path_join, path_lt, path_letters}
 use Rattle.semiautomata.proofs.Computed.{reach_in, reach_out}
 use Rattle.semiautomata.proofs.Shares.{member_lt}
-use Rattle.semiautomata.proofs.Successors.{edge_is, fit_within}
+use Rattle.semiautomata.proofs.BySets.{edge_is}
 use Rattle.walks.specs.Walking.{Letters}
-use Rattle.walks.proofs.Steps.{bare, bare_within}
+use Rattle.walks.proofs.Steps.{means_within}
+use Rattle.walks.proofs.Words.{alone}
 use Rattle.walks.proofs.Reaching.{reached_in, reached_out}
 use Rattle.lookahead.specs.declared.Evidence.{Evidence}
 use Rattle.lookahead.specs.Answers.{TrueOf}
-use Rattle.claim.specs.inner.Steps.{NamedSet, LedBack, Loops}
+use Rattle.claim.specs.inner.Steps.{NamedSet, LedBack, Loops, Truth}
 
 -- THE SET THAT IS NAMED
 
@@ -47,142 +51,111 @@ named_as S q a set T is from into = record {
       (some-injective T U (sym is ∙ d)) into;
 }
 
-module _ (n m starts : ℕ) (sets : List ℕ) (q a : ℕ) where
-  abbrev S : Semiautomaton
-  S = successors n m starts sets
+module _ (A : Successors) (q a : ℕ) where
+  pub on_plan : (leb A.n q || leb A.m a) ≡ false → (q < A.n) × (a < A.m)
+  on_plan e = let (h, g) = or_none (leb A.n q) (leb A.m a) e in (leb-false A.n q h, leb-false A.m a g)
 
-  pub named_initial : (eqb q 255 && eqb a 0) ≡ true → NamedSet S q a starts
-  named_initial e = named_as S q a starts initial (rw e refl) (λ x d. (tt, d)) (λ _ x d. d)
-
-  pub on_plan : (leb n q || leb m a) ≡ false → (q < n) × (a < m)
-  on_plan e = let (h, g) = or_none (leb n q) (leb m a) e in (leb-false n q h, leb-false m a g)
-
-  off_plan : (leb n q || leb m a) ≡ true → (ltb q n && ltb a m) ≡ false
-  off_plan e = elim (or_cases (leb n q) (leb m a) e) [
-    | inl h ↦ rw (le-ltb q n (leb-true n q h))
-    | inr h ↦ rw (le-ltb a m (leb-true m a h), and-false)
+  off_plan : (leb A.n q || leb A.m a) ≡ true → (ltb q A.n && ltb a A.m) ≡ false
+  off_plan e = elim (or_cases (leb A.n q) (leb A.m a) e) [
+    | inl h ↦ rw (le-ltb q A.n (leb-true A.n q h))
+    | inr h ↦ rw (le-ltb a A.m (leb-true A.m a h), and-false)
   ]
 
   module _ (no : (eqb q 255 && eqb a 0) ≡ false) where
-    pub named_none : (leb n q || leb m a) ≡ true → NamedSet S q a 0
+    pub named_none : (leb A.n q || leb A.m a) ≡ true → NamedSet (means A) q a 0
     named_none e = record {
       from = λ x d. absurd (false≢true (sym (has_empty x) ∙ d));
       into = λ T d. let z : ◌≡◌ {A = ℕ} 0 1 = cc (rw (no, off_plan e) at d) in absurd (omega arith);
     }
 
     -- the fork set of a state, which is reached or not
-    module _ (f : Fit n m sets) (fits : starts < 2 ^ n) {reached : ℕ} (is : reached ≡ set_of n (accessible S)) (h : q < n) (g : a < m) where
-      fork_named : named S q a ≡ some (fork q a)
-      fork_named = rw (no, lt-ltb q n h, lt-ltb a m g) refl
+    module _ {reached : ℕ} (is : reached ≡ set_of A.n (accessible (means A))) (h : q < A.n) (g : a < A.m) where
+      fork_named : named (means A) q a ≡ some (fork q a)
+      fork_named = rw (no, lt-ltb q A.n h, lt-ltb a A.m g) refl
 
-      pub named_unreached : has reached q ≡ false → NamedSet S q a 0
+      pub named_unreached : has reached q ≡ false → NamedSet (means A) q a 0
       named_unreached e =
-          named_as S q a 0 (fork q a) fork_named (λ x d. absurd (false≢true (sym (has_empty x) ∙ d)))
-          (λ (c, _). absurd (false≢true (sym e ∙ reached_in S is q (fit_within n m starts sets f fits) h c)))
+          named_as (means A) q a 0 (fork q a) fork_named (λ x d. absurd (false≢true (sym (has_empty x) ∙ d)))
+          (λ (c, _). absurd (false≢true (sym e ∙ reached_in (means A) is q (means_within A) h c)))
 
-      pub named_fork : has reached q ≡ true → NamedSet S q a (set_at m sets q a)
+      pub named_fork : has reached q ≡ true → NamedSet (means A) q a (set_at A.m A.sets.now q a)
       named_fork e =
-          let edge : (x : ℕ) → S.edge q a x ≡ has (set_at m sets q a) x = λ x. edge_is n m starts sets q a x h g in
-          named_as S q a (set_at m sets q a) (fork q a) fork_named
-          (λ x d. let p = edge x ∙ d in ((reached_out S is q e, (x, p)), p)) (λ _ x d. sym (edge x) ∙ d)
+          let edge : (x : ℕ) → (means A).edge q a x ≡ has (set_at A.m A.sets.now q a) x =
+          λ x. edge_is A.n A.m A.starts A.sets.now q a x h g in
+          named_as (means A) q a (set_at A.m A.sets.now q a) (fork q a) fork_named
+          (λ x d. let p = edge x ∙ d in ((reached_out (means A) is q e, (x, p)), p)) (λ _ x d. sym (edge x) ∙ d)
 
 -- A CYCLE
 
--- a path does not depend on the initial states
-path_same : (n m k l : ℕ) (sets w : List ℕ) (s t : ℕ) → Path (successors n m k sets) s w t → Path (successors n m l sets) s w t
-path_same n m k l sets [] s t p = p
-path_same n m k l sets (a ∷ w) s t (r, e, p) = (r, e, path_same n m k l sets w r t p)
-
--- the set `1 << x`
-abbrev alone : ℕ → ℕ
-alone x = (1 * 2 ^ x) % 2 ^ 64
-
 -- the word leads back from x to x
-unfoldable pub leads_back : ℕ → ℕ → List ℕ → List ℕ → ℕ → Bool
-leads_back n m sets w x = reach (bare n m sets) (single x) w x
+unfoldable pub leads_back : Semiautomaton → List ℕ → ℕ → Bool
+leads_back S w x = reach S (single x) w x
 
-module _ {n m : ℕ} {sets : List ℕ} (f : Fit n m sets) (w : List ℕ) where
-  module _ {x r : ℕ} (h : x < n) (e : r ≡ set_of n (reach (bare n m sets) (has (alone x)) w)) where
+module _ (A : Successors) (w : List ℕ) where
+  module _ {x r : ℕ} (h : x < A.n) (e : r ≡ set_of A.n (reach (means A) (has (alone x)) w)) where
     alone_has : (t : ℕ) → has (alone x) t ≡ single x t
-    alone_has t = has_shl 64 x t (omega (arith, f.states))
+    alone_has t = has_shl 64 x t (omega (arith, A.fit.states))
 
-    reached_at : has r x ≡ leads_back n m sets w x
+    reached_at : has r x ≡ leads_back (means A) w x
     unfolding leads_back
-    reached_at = rw (e, has_set_of, lt-ltb x n h, fun_ext alone_has)
+    reached_at = rw (e, has_set_of, lt-ltb x A.n h, fun_ext alone_has)
 
-    pub back_hit : ¬ (bit_and r (alone x) ≡ 0) → leads_back n m sets w x ≡ true
+    pub back_hit : ¬ (bit_and r (alone x) ≡ 0) → leads_back (means A) w x ≡ true
     back_hit ne =
-        with_any n _ (λ t g d.
+        with_any A.n _ (λ t g d.
         let (a, b) = and_out (has r t) (has (alone x) t) d in
         sym reached_at ∙ rw (eqb-true x t (sym (alone_has t) ∙ b)) a)
-        (meets_some n r (alone x) (rw e (set_of_lt n _)) ne)
+        (meets_some A.n r (alone x) (rw e (set_of_lt A.n _)) ne)
 
-    pub back_miss : bit_and r (alone x) ≡ 0 → leads_back n m sets w x ≡ false
-    back_miss z = sym reached_at ∙ rw (alone_has x, eq-eqb x x refl, and-true) at (any_not n _ (meets_none n r (alone x) z) x h)
+    pub back_miss : bit_and r (alone x) ≡ 0 → leads_back (means A) w x ≡ false
+    back_miss z = sym reached_at ∙ rw (alone_has x, eq-eqb x x refl, and-true) at (any_not A.n _ (meets_none A.n r (alone x) z) x h)
 
-  module _ (set : ℕ) where
-    pub led_yes : any n (λ x. has set x && leads_back n m sets w x) ≡ true → (starts : ℕ) → LedBack (successors n m starts sets) set w true
-    unfolding leads_back
-    led_yes e starts = record {
-      yes_so = λ _. with_any n _ (λ x _ d.
-          let (a, b) = and_out (has set x) _ d in
-          let (z, i, p) = reach_out (bare n m sets) (single x) w x b in
-          (x, a, path_same n m 0 starts sets w x x (rw (← eqb-true x z i) at p))) e;
-      no_so = λ d. absurd (true≢false d);
-    }
+module _ (S : Semiautomaton) (w : List ℕ) (set : ℕ) where
+  pub led_yes : any S.n (λ x. has set x && leads_back S w x) ≡ true → LedBack S set w true
+  unfolding leads_back
+  led_yes e = record {
+    yes_so = λ _. with_any S.n _ (λ x _ d.
+        let (a, b) = and_out (has set x) _ d in
+        let (z, i, p) = reach_out S (single x) w x b in
+        (x, a, rw (← eqb-true x z i) at p)) e;
+    no_so = λ d. absurd (true≢false d);
+  }
 
-    pub led_no : set < 2 ^ n → any n (λ x. has set x && leads_back n m sets w x) ≡ false → (starts : ℕ)
-        → LedBack (successors n m starts sets) set w false
-    unfolding leads_back
-    led_no h e starts = record {
-      yes_so = λ d. absurd (false≢true d);
-      no_so = λ _ x i p.
-          let b = reach_in (bare n m sets) (bare_within f) (single x) w x x (eq-eqb x x refl) (path_same n m starts 0 sets w x x p) in
-          false≢true (sym e ∙ any_in n _ x (has_lt n set x h i) (and_in _ _ i b));
-    }
+  pub led_no : Within S → set < 2 ^ S.n → any S.n (λ x. has set x && leads_back S w x) ≡ false → LedBack S set w false
+  unfolding leads_back
+  led_no W h e = record {
+    yes_so = λ d. absurd (false≢true d);
+    no_so = λ _ x i p.
+        let b = reach_in S W (single x) w x x (eq-eqb x x refl) p in
+        false≢true (sym e ∙ any_in S.n _ x (has_lt S.n set x h i) (and_in _ _ i b));
+  }
 
 -- A STEM AND A CYCLE
 
-module _ {n m : ℕ} {sets : List ℕ} (f : Fit n m sets) {s : ℕ} (h : s < n) {one : ℕ} (o : one ≡ set_of 64 (single s)) where
-  pub one_lt : one < 2 ^ n
-  one_lt = rw (o, ← pow_set_of 64 s (omega (arith, f.states))) (pow-lt h)
+module _ (A : Successors) {s : ℕ} (h : s < A.n) {one : ℕ} (o : one ≡ set_of 64 (single s)) where
+  pub one_lt : one < 2 ^ A.n
+  one_lt = rw (o, ← pow_set_of 64 s (omega (arith, A.fit.states))) (pow-lt h)
 
   one_is : (t : ℕ) → has one t ≡ true → s ≡ t
   one_is t d = eqb-true s t (and_out (ltb t 64) (eqb s t) (rw (o, has_set_of) at d)).1
 
   one_has : has one s ≡ true
-  one_has = rw (o, has_set_of, lt-ltb s 64 (omega (arith, f.states))) (eq-eqb s s refl)
+  one_has = rw (o, has_set_of, lt-ltb s 64 (omega (arith, A.fit.states))) (eq-eqb s s refl)
 
-  pub loops : (stem cycle : List ℕ) {reached : ℕ} {r : Bool}
-      → ((starts : ℕ) → reached ≡ set_of n (reach (successors n m starts sets) (has one) stem))
-      → ((starts : ℕ) → LedBack (successors n m starts sets) reached cycle r) → (starts : ℕ) → Loops
-      (successors n m starts sets) s stem cycle r
-  loops stem cycle {reached} {r} e b starts = record {
+  pub loops : (stem cycle : List ℕ) {reached : ℕ} {r : Bool} → reached ≡ set_of A.n (reach (means A) (has one) stem)
+      → LedBack (means A) reached cycle r → Loops (means A) s stem cycle r
+  loops stem cycle {reached} {r} e b = record {
     yes_so = λ y.
-        let (x, d, p) = (b starts).yes_so y in
-        let (z, i, u) = reach_out (successors n m starts sets) (has one) stem x (and_out (ltb x n) _ (rw (e starts, has_set_of) at d)).1 in
+        let (x, d, p) = b.yes_so y in
+        let (z, i, u) = reach_out (means A) (has one) stem x (and_out (ltb x A.n) _ (rw (e, has_set_of) at d)).1 in
         record { knot = x; reached = rw (one_is z i) u; back = p };
     no_so = λ y l.
-        let u = path_same n m starts 0 sets stem s l.knot l.reached in
-        let below = path_lt (bare n m sets) (bare_within f) stem s l.knot h u in
-        (b starts).no_so y l.knot
-        (rw (e 0, has_set_of, lt-ltb l.knot n below) (reach_in (bare n m sets) (bare_within f) (has one) stem s l.knot one_has u))
+        let W = means_within A in
+        let below = path_lt (means A) W stem s l.knot h l.reached in
+        b.no_so y l.knot
+        (rw (e, has_set_of, lt-ltb l.knot A.n below) (reach_in (means A) W (has one) stem s l.knot one_has l.reached))
         l.back;
   }
-
--- THE LETTERS
-
--- a part of a word has no other letters
-part_letters : {m : ℕ} (end : ℕ) (word : List ℕ) → Letters m (take end word) → end ≤ length word → (at size : ℕ) → at + size ≤ end
-    → Letters m (take size (drop at word))
-part_letters end word l h at size g = record {
-  below = λ i k.
-      let fits : size ≤ length (drop at word) = rw length-drop (omega arith) in
-      let k : i < size = rw (length-take-le size (drop at word) fits) at k in
-      let e : at + i < end = omega arith in
-      rw (get_or-take size (drop at word) i 0 k, get_or-drop)
-      (rw (get_or-take end word (at + i) 0 e) at (l.below (at + i) (rw (length-take-le end word h) e)));
-}
 
 -- THE CLAIM
 
@@ -205,25 +178,14 @@ module _ (k : Evidence) (letters : List ℕ) (h : k.stem + k.cycle ≤ length le
   cycle_length : length (take k.cycle (drop k.stem letters)) ≡ k.cycle
   cycle_length = length-take-le k.cycle (drop k.stem letters) (rw length-drop (omega arith))
 
-  -- the letters of the stem and of the cycle
-  pub word_letters : {m : ℕ} → Letters m (take (k.stem + k.cycle) letters)
-      → Letters m (take k.stem letters) × Letters m (take (k.stem + k.cycle - k.stem) (drop k.stem letters))
-  word_letters l = (
-    part_letters (k.stem + k.cycle) letters l h 0 k.stem (omega arith),
-    part_letters (k.stem + k.cycle) letters l h k.stem (k.stem + k.cycle - k.stem) (omega arith),
-  )
+  -- the letters of both, parted again
+  lead_in : take k.stem (take (k.stem + k.cycle) letters) ≡ take k.stem letters
+  lead_in = rw take-add (take_at (take k.stem letters) (take k.cycle (drop k.stem letters)) k.stem stem_length)
+
+  round : drop k.stem (take (k.stem + k.cycle) letters) ≡ take k.cycle (drop k.stem letters)
+  round = drop-take k.stem k.cycle letters
 
 module _ {S : Semiautomaton} (W : Within S) (k : Evidence) (letters : List ℕ) where
-  pub claimed_lengths : TrueOf S k letters → lengths_off S.n k letters ≡ false
-  claimed_lengths c =
-      let x = stem_length k letters c.there in
-      let y = cycle_length k letters c.there in
-      rw (
-        ne_eqb k.cycle 0 (λ e. omega (arith, c.witness.turns, y)),
-        le-ltb (S.n * S.n) (k.stem + k.cycle) (omega (arith, c.witness.short, x, y)),
-        le-ltb (length letters) (k.stem + k.cycle) c.there,
-      )
-
   pub claimed_letters : TrueOf S k letters → Letters S.m (take (k.stem + k.cycle) letters)
   claimed_letters c =
       let l = c.witness.s_lasso in
@@ -234,15 +196,6 @@ module _ {S : Semiautomaton} (W : Within S) (k : Evidence) (letters : List ℕ) 
 
   module _ {set : ℕ} (N : NamedSet S k.state k.letter set) {low high : Bool}
       (low_is : low ≡ has set k.low) (high_is : high ≡ has set k.high) where
-    pub claimed_states : TrueOf S k letters → states_off k low high ≡ false
-    claimed_states c =
-        let w = c.witness in
-        rw (
-          lt-leb k.high k.low w.order,
-          low_is ∙ N.into c.set c.names w.counts k.low w.s_in,
-          high_is ∙ N.into c.set c.names w.counts k.high w.t_in,
-        )
-
     module _ (states : states_off k low high ≡ false) where
       states_are : (k.low < k.high) × (has set k.low ≡ true) × (has set k.high ≡ true)
       states_are =
@@ -285,20 +238,19 @@ module _ {S : Semiautomaton} (W : Within S) (k : Evidence) (letters : List ℕ) 
             }
 
         pub claimed_answer : {x y : Bool}
-            → Loops S k.low (take k.stem letters) (take (k.stem + k.cycle - k.stem) (drop k.stem letters)) x
-            → Loops S k.high (take k.stem letters) (take (k.stem + k.cycle - k.stem) (drop k.stem letters)) y
-            → ((x && y) ≡ true → TrueOf S k letters) × ((x && y) ≡ false → ¬ TrueOf S k letters)
+            → let word = take (k.stem + k.cycle) letters in Loops S k.low (take k.stem word) (drop k.stem word) x
+            → Loops S k.high (take k.stem word) (drop k.stem word) y → Truth S k letters (x && y)
         claimed_answer {x} {y} l r =
-            let e : k.stem + k.cycle - k.stem ≡ k.cycle = omega arith in
-            let l : Loops S k.low (take k.stem letters) (take k.cycle (drop k.stem letters)) x = rw e at l in
-            let r : Loops S k.high (take k.stem letters) (take k.cycle (drop k.stem letters)) y = rw e at r in (
+            let there = lengths_there S.n k letters lengths in
+            let l : Loops S k.low (take k.stem letters) (take k.cycle (drop k.stem letters)) x =
+            rw (lead_in k letters there, round k letters there) at l in
+            let r : Loops S k.high (take k.stem letters) (take k.cycle (drop k.stem letters)) y =
+            rw (lead_in k letters there, round k letters there) at r in (
               λ b. let (b, d) = and_out x y b in claimed_by (l.yes_so b) (r.yes_so d),
               λ b c. elim (decided x) [ inl d ↦ r.no_so (rw d at b) c.witness.t_lasso | inr d ↦ l.no_so d c.witness.s_lasso ],
             )
 
--- the answer and what it says
-pub yes_so : {P : Type 0} → P → (◌≡◌ {A = Bool} true true) ↔ P
-yes_so p = (λ _. p, λ _. refl)
-
-pub no_so : {P : Type 0} → ¬ P → (◌≡◌ {A = Bool} false true) ↔ P
-no_so n = (λ e. absurd (false≢true e), λ p. absurd (n p))
+-- the answer says whether the claim is true
+pub says : {S : Semiautomaton} {k : Evidence} {letters : List ℕ} (r : Bool) → Truth S k letters r → (r ≡ true) ↔ TrueOf S k letters
+says true t = (t.0, λ _. refl)
+says false t = (t.0, λ c. absurd (t.1 refl c))

@@ -16,21 +16,22 @@ use Rattle.bitset.specs.Numbers.{has, set_of}
 use Rattle.bitset.proofs.Tests.{and_in, and_out, decided, same_test}
 use Rattle.bitset.proofs.Below.{any_out, any_none, size_cong, Sole, size_sole, least_sole}
 use Rattle.bitset.proofs.Bits.{has_empty, has_high, fits, some_member, set_of_lt, set_of_has, has_set_of, is_set_of, set_of_cong}
-use Rattle.bitset.proofs.Members.{ones_size}
+use Rattle.bitset.proofs.Counts.{ones_size}
 use Rattle.semiautomata.specs.Semiautomaton.{Semiautomaton, Within}
 use Rattle.semiautomata.specs.Walks.{spells, step, reach, survivors, walkable, possible}
-use Rattle.semiautomata.specs.Successors.{successors}
+use Rattle.semiautomata.specs.Means.{means}
+use Rattle.semiautomata.specs.declared.successors.Successors.{Successors}
 use Rattle.streaming.specs.Calls.{Reply, refused, nothing}
 use Rattle.streaming.specs.PlainWalk.{limit}
 use Rattle.streaming.specs.Streaming.{base, sound, sole_at, resolve, settle, opened}
 use Rattle.semiautomata.proofs.Computed.{reach_out, spells_in, reach_append, walkable_reach}
 use Rattle.semiautomata.proofs.Paths.{path_lt}
 use Rattle.streaming.proofs.Streaming.{length_snoc}
-use Rattle.walks.proofs.Steps.{reach_bare, step_members}
+use Rattle.walks.proofs.Steps.{means_within, step_members}
 use Rattle.walks.proofs.Words.{some_of, none_of, possible_last}
 use Rattle.records.specs.Bytes.{decode, tidy}
 use Rattle.deciding.specs.Deciding.{resolving, opening, decision}
-use Rattle.deciding.proofs.Standing.{By, base_below, Standing}
+use Rattle.deciding.proofs.Standing.{base_below, Standing}
 
 -- THE POSITION THAT IS DUE
 
@@ -113,17 +114,16 @@ reached {S} {k} {bytes = bytes} s a e =
     ∙ step_members S (reach S (base S k (decode bytes)) (decode bytes).held) a t)
     ∙ ap (set_of S.n) (sym (reach_append S (base S k (decode bytes)) (decode bytes).held (a ∷ [])))
 
--- the same from the base as a number, whatever the initial states are
-pub reached_from : (n m starts others : ℕ) (sets : List ℕ) (from a : ℕ) {k here next : ℕ} {bytes part : List ℕ}
-    → Standing (successors n m starts sets) k bytes here
-    → has from ≡ base (successors n m starts sets) k (decode bytes) → part ≡ (decode bytes).held
-    → next ≡ set_of n (step (successors n m starts sets) (has here) a)
-    → next ≡ set_of n (reach (successors n m others sets) (has from) (part ++ (a ∷ [])))
-reached_from n m starts others sets from a {part = part} s is held e =
-    rw (reach_bare n m others sets (has from) (part ++ (a ∷ [])), ← reach_bare n m starts sets (has from) (part ++ (a ∷ [])), is, held)
-    (reached s a e)
+-- the same from the base as a number
+pub reached_from : {S : Semiautomaton} {k here : ℕ} {bytes : List ℕ} → Standing S k bytes here → (from : ℕ) → has from ≡ base S k (decode bytes)
+    → {part : List ℕ} → part ≡ (decode bytes).held → (a : ℕ) {next : ℕ} → next ≡ set_of S.n (step S (has here) a)
+    → next ≡ set_of S.n (reach S (has from) (part ++ (a ∷ [])))
+reached_from s from is held a e = rw (is, held) (reached s a e)
 
-module _ {S : Semiautomaton} {k here starts : ℕ} {bytes : List ℕ} (s : Standing S k bytes here) (b : By S starts) (a : ℕ) where
+module _ (x : Successors) {k here : ℕ} {bytes : List ℕ} (s : Standing (means x) k bytes here) (a : ℕ) where
+  abbrev S : Semiautomaton
+  S = means x
+
   pub judged_11 : limit ≤ (decode bytes).fed → refused 11 ≡ (decision S k bytes a).reply
   unfolding decision
   judged_11 h = rw (s.tidied, s.is_sound, le-leb limit (decode bytes).fed h)
@@ -136,7 +136,7 @@ module _ {S : Semiautomaton} {k here starts : ℕ} {bytes : List ℕ} (s : Stand
     module _ (g : a < S.m) {next : ℕ} (step_is : next ≡ set_of S.n (step S (has here) a)) where
       walks : walkable S (base S k (decode bytes)) ((decode bytes).held ++ (a ∷ [])) ≡ any S.n
           (reach S (base S k (decode bytes)) ((decode bytes).held ++ (a ∷ [])))
-      walks = walkable_reach S b.within (base S k (decode bytes)) (base_below b k (decode bytes) s.keeps.last_lt)
+      walks = walkable_reach S (means_within x) (base S k (decode bytes)) (base_below x k (decode bytes) s.keeps.last_lt)
           ((decode bytes).held ++ (a ∷ []))
 
       pub judged_13 : next ≡ 0 → refused 13 ≡ (decision S k bytes a).reply
@@ -168,30 +168,30 @@ module _ {S : Semiautomaton} {k here starts : ℕ} {bytes : List ℕ} (s : Stand
             (possible S (base S k (decode bytes)) ((decode bytes).held ++ (a ∷ [])) (length ((decode bytes).held ++ (a ∷ [])) - k)) =
             rw (length_snoc (decode bytes).held a) (rw (is, q) at e) in
             d ∙ rw (f, add-one (decode bytes).fed)
-            (resolving_is S b.states (base S k (decode bytes)) ((decode bytes).held ++ (a ∷ []))
+            (resolving_is S x.fit.states (base S k (decode bytes)) ((decode bytes).held ++ (a ∷ []))
             (length ((decode bytes).held ++ (a ∷ [])) - k) (suc (decode bytes).fed - k) same
             ∙ rw (settles, settle, le-ltb (suc (decode bytes).fed) k l))
 
 -- OPENING
 
-module _ (S : Semiautomaton) (k : ℕ) {starts : ℕ} (b : By S starts) where
-  start_set : starts ≡ set_of S.n (possible S S.initial [] 0)
+module _ (x : Successors) (k : ℕ) where
+  start_set : x.starts ≡ set_of x.n (possible (means x) (has x.starts) [] 0)
   unfolding possible spells
-  start_set = sym (set_of_has S.n starts b.below) ∙ set_of_cong S.n _ _ (λ t _. rw b.initial (sym (and-true (has starts t))))
+  start_set = sym (set_of_has x.n x.starts x.starts_fit) ∙ set_of_cong x.n _ _ (λ t _. sym (and-true (has x.starts t)))
 
-  pub opening_is : opening k starts ≡ (opened S k).reply
+  pub opening_is : opening k x.starts ≡ (opened (means x) k).reply
   unfolding opening opened settle
-  opening_is = go (decided (eqb starts 0)) (decided (ltb 0 k))
+  opening_is = go (decided (eqb x.starts 0)) (decided (ltb 0 k))
     where
-      some : eqb starts 0 ≡ false → any S.n S.initial ≡ true
-      some e = rw b.initial (some_member S.n starts (omega (arith, eqb-false starts 0 e)) b.below)
+      some : eqb x.starts 0 ≡ false → any x.n (has x.starts) ≡ true
+      some e = some_member x.n x.starts (omega (arith, eqb-false x.starts 0 e)) x.starts_fit
 
-      go : (eqb starts 0 ≡ true) ⊎ (eqb starts 0 ≡ false) → (ltb 0 k ≡ true) ⊎ (ltb 0 k ≡ false) → opening k starts ≡ (opened S k).reply
+      go : (eqb x.starts 0 ≡ true) ⊎ (eqb x.starts 0 ≡ false) → (ltb 0 k ≡ true) ⊎ (ltb 0 k ≡ false)
+          → opening k x.starts ≡ (opened (means x) k).reply
       go (inl e) l =
-          let none : any S.n S.initial ≡ false =
-          rw b.initial (any_none S.n (has starts) (λ t _. rw (eqb-true starts 0 e) (has_empty t))) in
+          let none : any x.n (has x.starts) ≡ false = any_none x.n (has x.starts) (λ t _. rw (eqb-true x.starts 0 e) (has_empty t)) in
           rw (opening, e, opened, none)
       go (inr e) (inl l) = rw (opening, e, l, opened, some e, settle)
       go (inr e) (inr l) =
           let z : k ≡ 0 = omega (arith, ltb-false 0 k l) in
-          rw (opening, e, l, opened, some e, settle, z) (resolving_is S b.states S.initial [] 0 0 start_set)
+          rw (opening, e, l, opened, some e, settle, z) (resolving_is (means x) x.fit.states (has x.starts) [] 0 0 start_set)

@@ -2,7 +2,7 @@
 -- Assumes nothing.
 use Prim.Native.Nat.{ℕ, ◌+◌, ◌^◌, ◌≤◌, ◌<◌, min}
 use mathlib.Core.Bool.{Bool, true, false, cond, ◌&&◌}
-use mathlib.Core.Path.{◌≡◌, refl, sym, ◌∙◌, fun_ext}
+use mathlib.Core.Path.{◌≡◌, sym, ◌∙◌, fun_ext}
 use mathlib.Core.Logic.{◌⊎◌, inl, inr}
 use mathlib.Core.List.{List}
 use native.Mathlib.Omega.{arith}
@@ -15,15 +15,16 @@ use Rattle.bitset.specs.Numbers.{has, set_of}
 use Rattle.bitset.proofs.Tests.{and_out, decided}
 use Rattle.bitset.proofs.Below.{any_out}
 use Rattle.bitset.proofs.Bits.{fits, has_set_of}
-use Rattle.semiautomata.specs.Semiautomaton.{Semiautomaton, Within}
+use Rattle.semiautomata.specs.Semiautomaton.{Semiautomaton}
 use Rattle.semiautomata.specs.Walks.{reach, walkable}
-use Rattle.semiautomata.specs.Successors.{successors, Fit}
+use Rattle.semiautomata.specs.Means.{means}
+use Rattle.semiautomata.specs.declared.successors.Successors.{Successors}
 use Rattle.streaming.specs.PlainWalk.{limit}
 use Rattle.streaming.specs.Streaming.{Rec, base, rules, every, sound}
 use Rattle.semiautomata.proofs.Computed.{walkable_reach}
 use Rattle.semiautomata.proofs.Positions.{single_is}
-use Rattle.semiautomata.proofs.Successors.{fit_within}
 use Rattle.walks.specs.Walking.{Letters}
+use Rattle.walks.proofs.Steps.{means_within}
 use Rattle.walks.proofs.Words.{some_of, none_of}
 use Rattle.records.specs.Bytes.{held_from, held_count, decode, tidy}
 use Rattle.records.specs.Taking.{regular}
@@ -31,16 +32,6 @@ use Rattle.records.proofs.Bytes.{tidy_out}
 use Rattle.deciding.specs.Deciding.{standing}
 use Rattle.deciding.specs.inner.Parts.{base_set}
 use Rattle.deciding.proofs.Letters.{reach_letters}
-
--- S by numbers: at most 64 states, its initial states those of the number `starts`
-pub record By (S : Semiautomaton) (starts : ℕ) : Type 0 where
-  pub within : Within S
-  pub states : S.n ≤ 64
-  pub initial : S.initial ≡ has starts
-  pub below : starts < 2 ^ S.n
-
-pub by_sets : {n m starts : ℕ} {sets : List ℕ} → Fit n m sets → starts < 2 ^ n → By (successors n m starts sets) starts
-by_sets f h = record { within = fit_within _ _ _ _ f h; states = f.states; initial = refl; below = h }
 
 -- THE BASE
 
@@ -57,7 +48,7 @@ keeps_in n k fed last held e =
     let (c, _) = and_out (cond (ltb fed k) (eqb last 255) (ltb last n)) _ e in
     record { fed_le = leb-true _ _ a; held_is = eqb-true _ _ b; last_lt = λ h. ltb-true last n (rw (le-ltb fed k h) at c) }
 
-module _ {S : Semiautomaton} {starts : ℕ} (b : By S starts) (k : ℕ) (r : Rec) (last_lt : k ≤ r.fed → r.last < S.n) where
+module _ (x : Successors) (k : ℕ) (r : Rec) (last_lt : k ≤ r.fed → r.last < x.n) where
   alone : r.last < 64 → has (set_of 64 (single r.last)) ≡ single r.last
   alone h = fun_ext (λ t. has_set_of 64 (single r.last) t ∙ go t (decided (ltb t 64)))
     where
@@ -65,38 +56,38 @@ module _ {S : Semiautomaton} {starts : ℕ} (b : By S starts) (k : ℕ) (r : Rec
       go t (inl e) = rw e
       go t (inr e) = rw e (sym (ne_eqb r.last t (λ d. omega (arith, ltb-false t 64 e))))
 
-  base_is : has (base_set k starts r.fed r.last) ≡ base S k r
+  base_is : has (base_set k x.starts r.fed r.last) ≡ base (means x) k r
   unfolding base_set base
   base_is = go (decided (ltb r.fed k))
     where
-      go : (ltb r.fed k ≡ true) ⊎ (ltb r.fed k ≡ false) → has (base_set k starts r.fed r.last) ≡ base S k r
-      go (inl e) = rw (base_set, e) (sym b.initial)
-      go (inr e) = rw (base_set, e) (alone (omega (arith, last_lt (ltb-false _ _ e), b.states)))
+      go : (ltb r.fed k ≡ true) ⊎ (ltb r.fed k ≡ false) → has (base_set k x.starts r.fed r.last) ≡ base (means x) k r
+      go (inl e) = rw (base_set, e)
+      go (inr e) = rw (base_set, e) (alone (omega (arith, last_lt (ltb-false _ _ e), x.fit.states)))
 
-  base_lt : base_set k starts r.fed r.last < 2 ^ S.n
+  base_lt : base_set k x.starts r.fed r.last < 2 ^ x.n
   unfolding base_set
   base_lt = go (decided (ltb r.fed k))
     where
-      go : (ltb r.fed k ≡ true) ⊎ (ltb r.fed k ≡ false) → base_set k starts r.fed r.last < 2 ^ S.n
-      go (inl e) = rw (base_set, e) b.below
+      go : (ltb r.fed k ≡ true) ⊎ (ltb r.fed k ≡ false) → base_set k x.starts r.fed r.last < 2 ^ x.n
+      go (inl e) = rw (base_set, e) x.starts_fit
       go (inr e) =
           let h = last_lt (ltb-false _ _ e) in
-          rw (base_set, e) (fits S.n _ (λ t g. rw (alone (omega (arith, b.states))) (ne_eqb r.last t (λ d. omega arith))))
+          rw (base_set, e) (fits x.n _ (λ t g. rw (alone (omega (arith, x.fit.states))) (ne_eqb r.last t (λ d. omega arith))))
 
   -- as the code has it
-  module _ {from fed : ℕ} (e : from ≡ base_set k starts fed r.last) (d : fed ≡ r.fed) where
-    pub from_is : has from ≡ base S k r
+  module _ {from fed : ℕ} (e : from ≡ base_set k x.starts fed r.last) (d : fed ≡ r.fed) where
+    pub from_is : has from ≡ base (means x) k r
     from_is = rw (e, d) base_is
 
-    pub from_lt : from < 2 ^ S.n
+    pub from_lt : from < 2 ^ x.n
     from_lt = rw (e, d) base_lt
 
-  pub base_below : (s : ℕ) → base S k r s ≡ true → s < S.n
+  pub base_below : (s : ℕ) → base (means x) k r s ≡ true → s < x.n
   unfolding base
   base_below s = go (decided (ltb r.fed k))
     where
-      go : (ltb r.fed k ≡ true) ⊎ (ltb r.fed k ≡ false) → base S k r s ≡ true → s < S.n
-      go (inl e) q = b.within.initial_lt s (rw (base, e) at q)
+      go : (ltb r.fed k ≡ true) ⊎ (ltb r.fed k ≡ false) → base (means x) k r s ≡ true → s < x.n
+      go (inl e) q = (means_within x).initial_lt s (rw (base, e) at q)
       go (inr e) q = let q = single_is r.last s (rw (base, e) at q) in rw q (last_lt (ltb-false _ _ e))
 
 -- THE HELD LETTERS
@@ -125,12 +116,13 @@ module _ (S : Semiautomaton) (k : ℕ) (bytes : List ℕ) (room : held_from + k 
   unfolding standing
   standing_is t e = rw (t, rules_are t ∙ e)
 
-  module _ {starts : ℕ} (b : By S starts) where
-    pub standing_walked : tidy k bytes ≡ true → regular S.n k (decode bytes).fed (decode bytes).last (held_count bytes) ≡ true
-        → {from fed r : ℕ} {part : List ℕ} → from ≡ base_set k starts fed (decode bytes).last → fed ≡ (decode bytes).fed
-        → part ≡ (decode bytes).held
-        → r ≡ set_of S.n (reach S (has from) part) → r ≡ standing S k bytes
-    standing_walked t e d f q o = o ∙ rw (q, from_is b k (decode bytes) (keeps_in _ _ _ _ _ e).last_lt d f) (sym (standing_is t e))
+pub standing_walked : (x : Successors) (k : ℕ) (bytes : List ℕ) → held_from + k ≤ length bytes → tidy k bytes ≡ true
+    → regular x.n k (decode bytes).fed (decode bytes).last (held_count bytes) ≡ true
+    → {from fed r : ℕ} {part : List ℕ} → from ≡ base_set k x.starts fed (decode bytes).last → fed ≡ (decode bytes).fed
+    → part ≡ (decode bytes).held
+    → r ≡ set_of x.n (reach (means x) (has from) part) → r ≡ standing (means x) k bytes
+standing_walked x k bytes room t e d f q o =
+    o ∙ rw (q, from_is x k (decode bytes) (keeps_in _ _ _ _ _ e).last_lt d f) (sym (standing_is (means x) k bytes room t e))
 
 -- the same where some state is reached
 pub record Standing (S : Semiautomaton) (k : ℕ) (bytes : List ℕ) (here : ℕ) : Type 0 where
@@ -142,15 +134,24 @@ pub record Standing (S : Semiautomaton) (k : ℕ) (bytes : List ℕ) (here : ℕ
   pub is : here ≡ set_of S.n (reach S (base S k (decode bytes)) (decode bytes).held)
   pub some : any S.n (reach S (base S k (decode bytes)) (decode bytes).held) ≡ true
 
-module _ {S : Semiautomaton} {starts : ℕ} (b : By S starts) (k : ℕ) (bytes : List ℕ) (room : held_from + k ≤ length bytes) {here : ℕ}
-    (at : here ≡ standing S k bytes) where
+-- such a record is not full if it does not say so
+pub not_full : {S : Semiautomaton} {k here : ℕ} {bytes : List ℕ} → Standing S k bytes here → {fed : ℕ} → fed ≡ (decode bytes).fed
+    → ¬ (fed ≡ 1000000) → (decode bytes).fed < limit
+unfolding limit
+not_full s e h = omega (arith, s.keeps.fed_le, h)
+
+module _ (x : Successors) (k : ℕ) (bytes : List ℕ) (room : held_from + k ≤ length bytes) {here : ℕ}
+    (at : here ≡ standing (means x) k bytes) where
+  abbrev S : Semiautomaton
+  S = means x
+
   passes : Bool
   passes = regular S.n k (decode bytes).fed (decode bytes).last (held_count bytes)
 
   walks : passes ≡ true → walkable S (base S k (decode bytes)) (decode bytes).held ≡ any S.n
       (reach S (base S k (decode bytes)) (decode bytes).held)
   unfolding passes
-  walks e = walkable_reach S b.within (base S k (decode bytes)) (base_below b k (decode bytes) (keeps_in _ _ _ _ _ e).last_lt)
+  walks e = walkable_reach S (means_within x) (base S k (decode bytes)) (base_below x k (decode bytes) (keeps_in _ _ _ _ _ e).last_lt)
       (decode bytes).held
 
   pub standing_some : ¬ (here ≡ 0) → Standing S k bytes here
@@ -163,13 +164,13 @@ module _ {S : Semiautomaton} {starts : ℕ} (b : By S starts) (k : ℕ) (bytes :
       go (inl t) (inl e) =
           let q = at ∙ standing_is S k bytes room t e in
           let some = some_of S.n _ q h in
-          let (x, _, m) = any_out S.n _ some in
+          let (t', _, m) = any_out S.n _ some in
           record {
             tidied = t;
             is_sound = rw (rules_are S k bytes room t ∙ e) (walks e ∙ some);
             keeps = keeps_in _ _ _ _ _ e;
             long = held_length k bytes room t;
-            letters = reach_letters S b.within (base S k (decode bytes)) (decode bytes).held x m;
+            letters = reach_letters S (means_within x) (base S k (decode bytes)) (decode bytes).held t' m;
             is = q;
             some = some;
           }

@@ -14,14 +14,16 @@ use Rattle.bitset.proofs.Below.{with_any}
 use Rattle.bitset.proofs.Bits.{has_empty}
 use Rattle.semiautomata.specs.Semiautomaton.{Semiautomaton}
 use Rattle.semiautomata.specs.Walks.{reach, possible, longest}
-use Rattle.semiautomata.specs.Successors.{successors, Fit}
+use Rattle.semiautomata.specs.Successors.{successors}
+use Rattle.semiautomata.specs.Means.{means}
+use Rattle.semiautomata.specs.declared.successors.Successors.{Successors}
 use Rattle.semiautomata.specs.Lists.{range, collect}
 use Rattle.semiautomata.proofs.Computed.{reach_out}
-use Rattle.semiautomata.proofs.Successors.{fit_within}
+use Rattle.semiautomata.proofs.BySets.{fit_within}
 use Rattle.streaming.specs.Demand3.{followed}
 use Rattle.streaming.specs.Streaming.{base, unresolved}
 use Rattle.walks.specs.Walking.{Written}
-use Rattle.walks.proofs.Steps.{reach_bare}
+use Rattle.walks.proofs.Steps.{reach_any}
 use Rattle.walks.proofs.Longest.{longest_whole}
 use Rattle.records.specs.Bytes.{held_count, decode}
 use Rattle.deciding.specs.Deciding.{open_sets}
@@ -60,30 +62,29 @@ open_list S k X w l h r at count from e d =
 -- the same of a sound record, whose possible states are traced into a buffer
 module _ (S : Semiautomaton) (k : ℕ) (bytes : List ℕ) {here : ℕ} (s : Standing S k bytes here) (from : ℕ)
     (is : has from ≡ base S k (decode bytes)) {part old all : List ℕ}
-    (held : part ≡ (decode bytes).held) (o : Written S.n part (possible S (has from) part) old all) (h count : ℕ)
-    (eh : h ≡ held_count bytes) (room : suc h ≤ length all)
-    (e : count ≡ min (h + 1) k) where
-  pub open_sets_lem : open_sets S k bytes ≡ take count (drop (h + 1 - count) all)
+    (held : part ≡ (decode bytes).held) (o : Written S.n part (possible S (has from) part) old all) (count : ℕ)
+    (room : suc (length part) ≤ length all) (e : count ≡ min (length part + 1) k) where
+  pub open_sets_lem : open_sets S k bytes ≡ take count (drop (length part + 1 - count) all)
   open_sets_lem =
       let l : length part ≡ held_count bytes = ap length held ∙ s.long in
       rw (← is, ← held)
-      (open_list S k (has from) part all (omega (arith, s.keeps.held_is)) (omega arith) (λ i g. o.sets i g) count (h + 1 - count)
+      (open_list S k (has from) part all (omega (arith, s.keeps.held_is)) room (λ i g. o.sets i g) count (length part + 1 - count)
       (omega arith) (omega arith))
 
   pub open_count : length (open_sets S k bytes) ≡ count
   open_count = rw (open_sets_lem, length-take, length-drop) (omega arith)
 
 -- the held letters of a sound record can be walked from its base to their end
-module _ {n m k here from : ℕ} {sets bytes part : List ℕ} (starts : ℕ) (f : Fit n m sets) (below : from < 2 ^ n)
-    (s : Standing (successors n m starts sets) k bytes here)
-    (is : has from ≡ base (successors n m starts sets) k (decode bytes)) (held : part ≡ (decode bytes).held) where
-  reached : any n (reach (successors n m from sets) (has from) part) ≡ true
-  reached = rw (reach_bare n m from sets (has from) part, ← reach_bare n m starts sets (has from) part, is, held) s.some
+module _ (x : Successors) {k here from : ℕ} {bytes part : List ℕ} (below : from < 2 ^ x.n) (s : Standing (means x) k bytes here)
+    (is : has from ≡ base (means x) k (decode bytes)) (held : part ≡ (decode bytes).held) where
+  reached : any x.n (reach (means x) (has from) part) ≡ true
+  reached = rw (is, held) s.some
 
   pub base_some : ¬ (from ≡ 0)
-  base_some z = with_any n _
-      (λ t _ e. let (x, d, _) = reach_out (successors n m from sets) (has from) part t e in
-      true≢false (sym d ∙ ap (λ (y : ℕ). has y x) z ∙ has_empty x)) reached
+  base_some z = with_any x.n _
+      (λ t _ e. let (t', d, _) = reach_out (means x) (has from) part t e in
+      true≢false (sym d ∙ ap (λ (y : ℕ). has y t') z ∙ has_empty t')) reached
 
-  pub held_whole : {g : ℕ} → g ≡ longest (successors n m from sets) part → take g part ≡ part
-  held_whole = longest_whole _ (fit_within _ _ _ _ f below) part reached
+  pub held_whole : {g : ℕ} → g ≡ longest (successors x.n x.m from x.sets.now) part → take g part ≡ part
+  held_whole = longest_whole _ (fit_within _ _ _ _ x.fit below) part
+      (rw (reach_any x.n x.m from x.starts x.sets.now (has from) part) reached)

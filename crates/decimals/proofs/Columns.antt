@@ -1,11 +1,11 @@
 -- A number put into columns, digit by digit from the right.
 -- Assumes nothing.
 use Prim.Native.Nat.{ℕ, suc, ◌+◌, ◌-◌, ◌/◌, ◌%◌, ◌≤◌, ◌<◌}
-use mathlib.Core.Path.{◌≡◌, refl, sym, ◌∙◌, ap}
+use mathlib.Core.Path.{◌≡◌, sym, ◌∙◌, ap}
 use mathlib.Core.List.{List, [], ◌∷◌, ◌++◌, append-nil}
 use native.Mathlib.Omega.{arith}
-use lib.ListN.{length, take, drop, set, replicate, length-append, length-set, length-replicate, replicate-append-replicate}
-use lib.Seq.{set_at, take-suc, length-take-le, append_snoc, take-length, take_all, take_at, drop_at}
+use lib.ListN.{length, take, drop, set, replicate, length-append, length-replicate, replicate-append-replicate}
+use lib.Seq.{set_at, take-suc, length-take-le, append_snoc, take-length, take_at, drop_at}
 use Rattle.decimals.specs.Decimals.{decimal, blanks, right, left, RightAligned}
 use Rattle.decimals.proofs.Digits.{leading, leading_some, decimal_last}
 
@@ -13,7 +13,6 @@ use Rattle.decimals.proofs.Digits.{leading, leading_some, decimal_last}
 pub record Spelled (old : List ℕ) (x : ℕ) (others : List ℕ) (first : ℕ) (columns : List ℕ) : Type 0 where
   pub digits : List ℕ
   pub is : columns ≡ take first old ++ digits
-  pub long : length columns ≡ length old
   pub places : first + length digits ≡ length old
   pub whole : decimal x ≡ others ++ digits
   pub room : length others ≤ first
@@ -22,7 +21,6 @@ pub spelled_none : {old : List ℕ} {x : ℕ} → length (decimal x) ≤ length 
 spelled_none {old} {x} h = record {
   digits = [];
   is = sym (append-nil _ ∙ take-length old);
-  long = refl;
   places = omega arith;
   whole = sym (append-nil _);
   room = h;
@@ -47,7 +45,6 @@ module _ (rest : ℕ) {old : List ℕ} {x first : ℕ} {columns : List ℕ} (s :
       let f : suc (first - 1) ≡ first = omega (arith, spelled_place) in record {
         digits = v ∷ s.digits;
         is = rw s.is (rw f at (set_front old (first - 1) s.digits v (omega (arith, f, s.places))));
-        long = length-set columns (first - 1) v ∙ s.long;
         places = omega (arith, f, s.places);
         whole = s.whole ∙ rw (decimal_last rest, e) (append_snoc (leading (rest / 10)) _ s.digits);
         room = omega (arith, f, some_others);
@@ -62,13 +59,6 @@ module _ (rest : ℕ) {old : List ℕ} {x first : ℕ} {columns : List ℕ} (s :
   pub spelled_on : {v : ℕ} → v ≡ 48 + rest % 10 → ¬ (rest / 10 ≡ 0)
       → Spelled old x (decimal (rest / 10)) (first - 1) (set columns (first - 1) v)
   spelled_on e ne = rw (← leading_some ne) (spelled_next e)
-
--- from its first digit on stands the number, whole
-pub right_shown : {old : List ℕ} {x r : ℕ} {columns : List ℕ} → RightAligned old x r columns → (n : ℕ) → length old ≤ r + n
-    → take n (drop r columns) ≡ decimal x
-right_shown {old} {x} {r} {columns} a n h =
-    let from : drop r columns ≡ decimal x = rw a.is (drop_at (take r old) (decimal x) r (length-take-le r old (omega (arith, a.first)))) in
-    rw from (take_all n (decimal x) (omega (arith, a.first)))
 
 -- BLANKS
 

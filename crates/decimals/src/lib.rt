@@ -9,6 +9,7 @@ pub fn right(columns: &mut [u8], x: u64) -> usize
     requires { length (decimal x) ≤ length columns.old }
     ensures { RightAligned columns.old x result columns.new }
 {
+    // a loop, since how many digits there are shows only as they are put
     let mut first = columns.len();
     let mut rest = x;
     loop {

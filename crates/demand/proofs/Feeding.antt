@@ -11,8 +11,7 @@ use Rattle.streaming.specs.PlainWalk.{plain_feed}
 use Rattle.streaming.specs.Streaming.{Rec, feed}
 use Rattle.streaming.proofs.Streaming.{Follows, feed_agrees}
 use Rattle.table.specs.Table.{lookahead_of, table_meaning, unfit}
-use Rattle.deciding.specs.declared.Answer.{Answer}
-use Rattle.deciding.specs.Replies.{said}
+use Rattle.deciding.specs.Replies.{Answer, said}
 use Rattle.predictor.specs.Calls.{written}
 use Rattle.predictor.proofs.Following.{Holds, written_holds, feed_keeps, fed_is, follows_small}
 use Rattle.demand.specs.Demand.{Feeding, none, more}

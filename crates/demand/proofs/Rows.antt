@@ -27,30 +27,26 @@ use Rattle.semiautomata.proofs.Paths.{initial_accessible}
 use Rattle.semiautomata.proofs.Shares.{lookahead_unique, lookahead_predicts}
 use Rattle.plan.specs.Asked.{Asked, refusal_of, Passes, Proper}
 use Rattle.plan.proofs.Refusals.{asked_proper}
-use Rattle.prepare.specs.declared.Prepared.{Prepared}
-use Rattle.prepare.specs.Preparing.{LooksAhead, as_number, Draws}
+use Rattle.std.specs.Prelude.{Result, Ok, Err}
+use Rattle.refusals.specs.Named.{outcome_of}
+use Rattle.refusals.specs.declared.Refusal.{Refusal}
+use Rattle.prepare.specs.Preparing.{Prepared, LooksAhead, as_number, Draws}
 use Rattle.prepare.specs.Theorems.{Right}
 use Rattle.samples.specs.Plans.{bytes, B', T₁, Ahead, AsSaid}
 use Rattle.samples.proofs.Plans.{ahead, ahead_so, samples_hold}
-use Rattle.streaming.specs.Calls.{Result}
 use Rattle.streaming.specs.Calls as reply
 use Rattle.streaming.specs.PlainWalk.{limit}
 use Rattle.streaming.specs.Streaming.{base, sound, sole_at, settle, feed}
 use Rattle.slices.specs.Copying.{at_front}
 use Rattle.plan.proofs.Asked.{refused_passing}
-use Rattle.needs.specs.declared.Needs.{Needs}
-use Rattle.needs.specs.declared.Needs.TheVariants as needing
-use Rattle.needs.specs.Needs.{entries, TellsNeeds, outcome_of_needs, NeedsOf}
+use Rattle.needs.specs.Needs.{entries, TellsNeeds, NeedsOf}
 use Rattle.needs.proofs.Theorems.{met as needs-met}
 use Rattle.needs.proofs.Computed.{tells as tells-needs, tells_so}
 use Rattle.lookahead.specs.declared.Evidence.{Evidence}
 use Rattle.lookahead.specs.Answers.{TrueOf}
-use Rattle.claim.specs.declared.Checked.{Checked}
-use Rattle.claim.specs.declared.Checked.TheVariants as checking
 use Rattle.claim.specs.Checking.{Checks}
 use Rattle.records.specs.Bytes.{held_from, decode, tidy}
-use Rattle.deciding.specs.declared.Answer.{Answer}
-use Rattle.deciding.specs.Replies.{said}
+use Rattle.deciding.specs.Replies.{Answer, said}
 use Rattle.predictor.specs.Calls.{Feeds}
 use Rattle.predictor.proofs.Following as following
 use Rattle.demand.specs.Rows.{Saying, walked, judged, unopened, at_bound, claimed, uncounted, forged, needed, Row, Replied}
@@ -59,10 +55,6 @@ use Rattle.prepare.proofs.Theorems.{theorems as preparing-theorems}
 use Rattle.table.specs.Table.{letters_of, lookahead_of, table_meaning, unfit}
 use Rattle.walks.specs.Walking.{letter_off}
 use Rattle.simulate.specs.declared.Verdict.{Verdict}
-use Rattle.simulate.specs.declared.Walked.{Walked}
-use Rattle.simulate.specs.declared.Walked.TheVariants.{Upto}
-use Rattle.simulate.specs.declared.Judged.{Judged}
-use Rattle.simulate.specs.declared.Judged.TheVariants as judging
 use Rattle.simulate.specs.Walking.{Walks}
 use Rattle.simulate.specs.Verdicts.{Stands, verdict_refusal, Judges, Tells}
 use Rattle.simulate.specs.inner.Verdicts.{Computes}
@@ -100,8 +92,8 @@ module _ (A : Asked) (P : Proper A) (W : Within A.means) (k : ℕ) (table : List
 
   walk_so : (w sets : List ℕ) → OnPlan A.means w
       → ((i : ℕ) → i ≤ length w → Stands A.means.n (PossibleAt A.means w i) (get_or sets i 0))
-      → (old out : List ℕ) (a : Walked) → length w < length old → Walks table w a old out
-      → (a ≡ Upto (length w)) × ((i : ℕ) → i ≤ length w → get_or out i 0 ≡ get_or sets i 0)
+      → (old out : List ℕ) (a : Result ℕ Refusal) → length w < length old → Walks table w a old out
+      → (a ≡ Ok (length w)) × ((i : ℕ) → i ≤ length w → get_or out i 0 ≡ get_or sets i 0)
   walk_so w sets o stand old out a room c =
       let end = to_its_end table w a old out fit (subst (λ (S : Semiautomaton). OnPlan S w) (sym means) o) room c in
       let (_, s, _, _) = walked-so table w (length w) old out (rw end at c) in (
@@ -109,19 +101,22 @@ module _ (A : Asked) (P : Proper A) (W : Within A.means) (k : ℕ) (table : List
         λ i h. one_set _ _ _ _ (subst (λ (S : Semiautomaton). Stands S.n (PossibleAt S w i) (get_or out i 0)) means (s i h)) (stand i h),
       )
 
+  abbrev told : Verdict → Result Verdict Refusal
+  told v = Ok v
+
   judge_so : (q a : ℕ) (w : List ℕ) (v : Verdict) → named A.means q a ≡ some (fork q a) → letter_off A.means.m w ≡ false
       → Tells A.means (fork q a) w v
-      → (r : Judged) → Judges table q a w r → r ≡ judging.Told v
+      → (r : Result Verdict Refusal) → Judges table q a w r → r ≡ Ok v
   unfolding verdict_refusal
-  judge_so q a w v named-so letters tell (judging.Refused r) (e, n, _) =
+  judge_so q a w v named-so letters tell (Err r) (e, n, _) =
       let e12 : letter_off (letters_of table) w ≡ false = subst (λ (S : Semiautomaton). letter_off S.m w ≡ false) (sym means) letters in
       let e' : named (table_meaning table) q a ≡ some (fork q a) =
       subst (λ (S : Semiautomaton). named S q a ≡ some (fork q a)) (sym means) named-so in
       absurd (n (e ∙ rw (fit, e', e12)))
-  judge_so q a w v named-so letters tell (judging.Told u) (_, t) =
+  judge_so q a w v named-so letters tell (Ok u) (_, t) =
       let e' : named (table_meaning table) q a ≡ some (fork q a) =
       subst (λ (S : Semiautomaton). named S q a ≡ some (fork q a)) (sym means) named-so in
-      ap judging.Told (one_verdict A.means (fork q a) w u v
+      ap told (one_verdict A.means (fork q a) w u v
       (subst (λ (S : Semiautomaton). Tells S (fork q a) w u) means (t (fork q a) e')) tell)
 
   -- a forged record is fed as the rule without bytes says, where the look-ahead is 0
@@ -136,35 +131,35 @@ module _ (A : Asked) (P : Proper A) (W : Within A.means) (k : ℕ) (table : List
         tidied = rw k_is tidied;
         is = refl;
       } in
-      f.0 ∙ ap (λ (x : Result (List ℕ)). x.reply) (following.fed_is table fit bytes (decode bytes) letter holds) ∙ rw (means, k_is) meets
+      f.0 ∙ ap (λ (x : reply.Result (List ℕ)). x.reply) (following.fed_is table fit bytes (decode bytes) letter holds) ∙ rw (means, k_is) meets
 
 -- WHAT IS SAID OF CLAIMS
 
 module _ (A : Asked) (w : Passes A) where
-  claimed_yes : (e : Evidence) (letters : List ℕ) → TrueOf A.means e letters → (r : Checked) → Checks A e letters r
-      → r ≡ checking.Yes
-  claimed_yes e letters holds (checking.Refused r) (is, ne, _) = absurd (ne (is ∙ w))
-  claimed_yes e letters holds checking.Yes _ = refl
-  claimed_yes e letters holds checking.No (_, (_, so)) = absurd (false≢true (so holds))
+  claimed_yes : (e : Evidence) (letters : List ℕ) → TrueOf A.means e letters → (r : Result Bool Refusal) → Checks A e letters r
+      → r ≡ Ok true
+  claimed_yes e letters holds (Err r) (is, ne, _) = absurd (ne (is ∙ w))
+  claimed_yes e letters holds (Ok true) _ = refl
+  claimed_yes e letters holds (Ok false) (_, (_, so)) = absurd (false≢true (so holds))
 
   -- a set named by an unreachable state doesn't count, so that no claim about it is true
   uncounted_no : Within A.means → (q a : ℕ) → named A.means q a ≡ some (fork q a) → accessible A.means q ≡ false
-      → (e : Evidence) (letters : List ℕ) (r : Checked) → e.state ≡ q → e.letter ≡ a → Checks A e letters r → r ≡ checking.No
-  uncounted_no W q a name off e letters (checking.Refused r) _ _ (is, ne, _) = absurd (ne (is ∙ w))
-  uncounted_no W q a name off e letters checking.Yes q-is a-is (_, (so, _)) =
+      → (e : Evidence) (letters : List ℕ) (r : Result Bool Refusal) → e.state ≡ q → e.letter ≡ a → Checks A e letters r → r ≡ Ok false
+  uncounted_no W q a name off e letters (Err r) _ _ (is, ne, _) = absurd (ne (is ∙ w))
+  uncounted_no W q a name off e letters (Ok true) q-is a-is (_, (so, _)) =
       let c = so refl in
       let same : c.set ≡ fork q a = some-injective _ _ (sym c.names ∙ rw (q-is, a-is) name) in
       let counts : Counts A.means (fork q a) = subst (Counts A.means) same c.witness.counts in
       absurd (false≢true (sym off ∙ accessible_in A.means W q counts.0))
-  uncounted_no W q a name off e letters checking.No _ _ _ = refl
+  uncounted_no W q a name off e letters (Ok false) _ _ _ = refl
 
 -- THE NEEDS, of which there is one list
 
 needed_so : (A : Asked) → Proper A → Passes A → (numbers : List ℕ) → TellsNeeds A.means numbers → (old needs : List ℕ)
-    → length numbers ≤ length old → (a : Needs) → NeedsOf A a old needs
-    → (outcome_of_needs a ≡ answered (length numbers)) × (needs ≡ at_front numbers old)
+    → length numbers ≤ length old → (a : Result ℕ Refusal) → NeedsOf A a old needs
+    → (outcome_of a ≡ answered (length numbers)) × (needs ≡ at_front numbers old)
 needed_so A P w numbers t old needs room a d =
-    (needs-met A P).same a (needing.Entries (length numbers)) old needs (at_front numbers old) d (
+    (needs-met A P).same a (Ok (length numbers)) old needs (at_front numbers old) d (
       refused_passing A P w _ ∙ rw (le-ltb (length old) (entries A.means) (rw (← t.long) room)),
       (t.long, record { numbers = numbers; tells = t; is = refl }),
     )

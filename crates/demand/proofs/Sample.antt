@@ -16,10 +16,11 @@ use Rattle.table.specs.Table.{unfit, contents, laid_out}
 use Rattle.plan.specs.Asked.{refusal_with}
 use Rattle.prepare.specs.Preparing.{prepare_refusal}
 use Rattle.records.specs.Bytes.{tidy}
-use Rattle.deciding.specs.declared.Answer.TheVariants.{Refused, Resolved, Nothing}
+use Rattle.std.specs.Prelude.{Ok, Err, None}
+use Rattle.refusals.specs.declared.Refusal.TheVariants.{Letter}
 use Rattle.predictor.specs.Calls.{opened_on, fed_on, Opens, Feeds}
 use Rattle.demand.specs.Demand.{Made, none, more, Walk}
-use Rattle.demand.specs.Sample.{plan_a, table_a, offered, answers_on_a, OnPlanA}
+use Rattle.demand.specs.Sample.{plan_a, table_a, offered, booked, answers_on_a, OnPlanA}
 use Rattle.demand.proofs.Theorems.{walked_right}
 use Rattle.samples.proofs.Plans.{samples_hold}
 
@@ -61,31 +62,31 @@ begun = 0 ∷ 0 ∷ 0 ∷ 0 ∷ 255 ∷ 0 ∷ 0 ∷ 0 ∷ 0 ∷ 5 ∷ []
 abbrev after : ℕ → ℕ → List ℕ
 after fed last = fed ∷ 0 ∷ 0 ∷ 0 ∷ last ∷ 0 ∷ 1 ∷ 0 ∷ 0 ∷ 5 ∷ []
 
-opens : Opens table_a lent Nothing begun
+opens : Opens table_a lent (Ok None) begun
 unfolding opened_on unfit settle any has
 opens = (refl, refl)
 
-first : Feeds table_a begun 0 (Resolved 0 0) (after 1 0)
+first : Feeds table_a begun 0 (booked 0 0) (after 1 0)
 unfolding fed_on unfit tidy sound base limit settle sole_at walkable possible spells step any size least has
 first = (refl, refl)
 
-refused_1 : Feeds table_a (after 1 0) 1 (Refused 12) (after 1 0)
+refused_1 : Feeds table_a (after 1 0) 1 (Err Letter) (after 1 0)
 unfolding fed_on unfit tidy sound base limit settle sole_at walkable possible spells step any size least has
 refused_1 = (refl, refl)
 
-second : Feeds table_a (after 1 0) 0 (Resolved 1 1) (after 2 1)
+second : Feeds table_a (after 1 0) 0 (booked 1 1) (after 2 1)
 unfolding fed_on unfit tidy sound base limit settle sole_at walkable possible spells step any size least has
 second = (refl, refl)
 
-third : Feeds table_a (after 2 1) 0 (Resolved 2 1) (after 3 1)
+third : Feeds table_a (after 2 1) 0 (booked 2 1) (after 3 1)
 unfolding fed_on unfit tidy sound base limit settle sole_at walkable possible spells step any size least has
 third = (refl, refl)
 
-refused_256 : Feeds table_a (after 3 1) 256 (Refused 12) (after 3 1)
+refused_256 : Feeds table_a (after 3 1) 256 (Err Letter) (after 3 1)
 unfolding fed_on unfit tidy sound base limit settle sole_at walkable possible spells step any size least has
 refused_256 = (refl, refl)
 
-walk : Walk table_a 1 offered Nothing answers_on_a
+walk : Walk table_a 1 offered (Ok None) answers_on_a
 walk = record {
   bytes = lent;
   room = omega arith;
@@ -98,6 +99,6 @@ pub sample : OnPlanA
 sample = record {
   made = made;
   walk = walk;
-  demand3 = walked_right (asked plan_a 0) (asked_proper plan_a 0) 1 table_a made offered Nothing answers_on_a walk (λ r e. let z : ◌≡◌ {A = ℕ} 0 1 =
+  demand3 = walked_right (asked plan_a 0) (asked_proper plan_a 0) 1 table_a made offered (Ok None) answers_on_a walk (λ r e. let z : ◌≡◌ {A = ℕ} 0 1 =
       cc in absurd (omega arith));
 }

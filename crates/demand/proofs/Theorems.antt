@@ -28,9 +28,8 @@ use Rattle.prepare.proofs.Theorems.{table_read, theorems as preparing-theorems}
 use Rattle.table.specs.Table.{lookahead_of, table_meaning, unfit, contents}
 use Rattle.table.proofs.Fitness.{fitting, lookahead_le}
 use Rattle.table.proofs.Form.{Reads}
-use Rattle.deciding.specs.declared.Answer.{Answer}
 use Rattle.records.specs.Bytes.{held_from, decode, tidy}
-use Rattle.deciding.specs.Replies.{said}
+use Rattle.deciding.specs.Replies.{Answer, said}
 use Rattle.predictor.specs.Calls.{letter_checks, written, opened_on, fed_on, Opens}
 use Rattle.demand.specs.Demand.{Made, Walk, Taken, Theorems, TheoremsMet, DemandMet}
 use Rattle.predictor.proofs.Following.{Holds, Small, encode_holds, follows_small, opened_is}

@@ -16,7 +16,7 @@ use Rattle.semiautomata.proofs.Positions.{single_is, single_in, possible_lt, onl
 use Rattle.semiautomata.proofs.Waiting.{none_for_nothing, predictable_certain}
 use Rattle.table.specs.Table.{table_meaning, unfit}
 use Rattle.table.proofs.Fitness.{fitting}
-use Rattle.simulate.specs.declared.Walked.TheVariants.{Upto}
+use Rattle.std.specs.Prelude.{Ok}
 use Rattle.simulate.specs.Walking.{Walks}
 use Rattle.simulate.specs.Verdicts.{Stands}
 use Rattle.simulate.proofs.Sets.{stands}
@@ -54,7 +54,7 @@ module _ (table : List ℕ) (fit : unfit table ≡ false) (k : ℕ) (l : Lookahe
       one_set _ _ _ _ s (stands S.n (single x) (pow_set_of S.n x below) (λ y e. rw (single_is x y e) one.is)
       (λ y c. rw (one.only y c) (below, single_in x)))
 
-  pub one_shown : (word : List ℕ) (g : ℕ) (old out : List ℕ) → Walks table word (Upto g) old out
+  pub one_shown : (word : List ℕ) (g : ℕ) (old out : List ℕ) → Walks table word (Ok g) old out
       → (i : ℕ) → i + k ≤ g → (x : ℕ) × (get_or out i 0 ≡ 2 ^ x)
   one_shown word g old out c i h =
       let (long, stand, _, _) = walked table word g old out c in

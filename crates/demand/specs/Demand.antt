@@ -1,7 +1,7 @@
 -- Demand 3 (the user's term 3; document 01, Walks), of any calls that keep their promises, lent a table for which preparing's promise held;
 -- and what else follows of such a table.
 -- Assumes nothing.
-use Rattle.std.specs.Prelude.{ℕ, ◌+◌, ◌-◌, ◌*◌, ◌/◌, ◌^◌, ◌≤◌, ◌<◌, true, false, ◌↔◌, ◌≡◌, List, [], ◌∷◌, map, length, get_or}
+use Rattle.std.specs.Prelude.{ℕ, ◌+◌, ◌-◌, ◌*◌, ◌/◌, ◌^◌, ◌≤◌, ◌<◌, true, false, ◌↔◌, ◌≡◌, List, [], ◌∷◌, map, length, get_or, Bool, Result, Ok, Err}
 use Rattle.bitset.specs.Numbers.{has}
 use Rattle.semiautomata.specs.Such.{TwoSuch}
 use Rattle.semiautomata.specs.Semiautomaton.{Reached}
@@ -13,19 +13,14 @@ use Rattle.plan.specs.Asked.{Asked, Passes, Proper}
 use Rattle.plan.specs.Bytes.{asked}
 use Rattle.table.specs.Table.{sets_from}
 use Rattle.lookahead.specs.declared.Evidence.{Evidence}
-use Rattle.claim.specs.declared.Checked.{Checked}
-use Rattle.claim.specs.declared.Checked.TheVariants.{Yes}
 use Rattle.claim.specs.Checking.{Checks}
-use Rattle.prepare.specs.declared.Prepared.{Prepared}
-use Rattle.prepare.specs.declared.Prepared.TheVariants.{Ready, Unpredictable}
-use Rattle.prepare.specs.Preparing.{Prepares, CountsTo}
+use Rattle.refusals.specs.declared.Refusal.{Refusal}
+use Rattle.prepare.specs.declared.Unprepared.TheVariants.{Unpredictable}
+use Rattle.prepare.specs.Preparing.{Prepared, Prepares, CountsTo}
 use Rattle.prepare.specs.Theorems.{EitherCall, Right}
-use Rattle.simulate.specs.declared.Walked.{Walked}
-use Rattle.simulate.specs.declared.Walked.TheVariants.{Upto}
 use Rattle.simulate.specs.Walking.{Walks}
-use Rattle.deciding.specs.declared.Answer.{Answer}
 use Rattle.records.specs.Bytes.{held_from, decode}
-use Rattle.deciding.specs.Replies.{said}
+use Rattle.deciding.specs.Replies.{Answer, said}
 use Rattle.predictor.specs.Calls.{Opens, Feeds}
 
 -- Preparing made the table from what was asked and answered k: its promise held of what it was lent and what it left.
@@ -33,7 +28,7 @@ pub record Made (A : Asked) (k : ℕ) (table : List ℕ) : Type 0 where
   pub old : List ℕ
   pub old_letters : List ℕ
   pub letters : List ℕ
-  pub prepared : Prepares A (Ready k) old table old_letters letters
+  pub prepared : Prepares A (Ok k) old table old_letters letters
 
 -- Letters offered one after the other, and the answers: each call is lent the table unchanged, and the bytes that the call before, taken
 -- or refused, left.
@@ -61,8 +56,8 @@ pub record ShownInDoubt (table : List ℕ) (j : ℕ) : Type 0 where
   pub word : List ℕ
   pub position : ℕ
   pub later : position + j ≡ length word
-  pub shown : (a : Walked) (old out : List ℕ) → length word < length old → Walks table word a old out
-      → (a ≡ Upto (length word)) × TwoSuch (λ x. has (get_or out position 0) x ≡ true)
+  pub shown : (a : Result ℕ Refusal) (old out : List ℕ) → length word < length old → Walks table word a old out
+      → (a ≡ Ok (length word)) × TwoSuch (λ x. has (get_or out position 0) x ≡ true)
 
 -- What follows of a table that preparing made.
 pub record Theorems (A : Asked) (k : ℕ) (table : List ℕ) (made : Made A k table) : Type 0 where
@@ -81,7 +76,7 @@ pub record Theorems (A : Asked) (k : ℕ) (table : List ℕ) (made : Made A k ta
   -- W-203 as whole walks show it: where k is 1 or more, one of at most n + k letters has two states at a position that exactly k - 1
   -- letters follow; and all have one state at each position that k or more letters on the plan follow
   pub two_shown : 1 ≤ k → (d : ShownInDoubt table (k - 1)) × (length d.word ≤ A.means.n + k)
-  pub one_shown : (word : List ℕ) (g : ℕ) (old out : List ℕ) → Walks table word (Upto g) old out
+  pub one_shown : (word : List ℕ) (g : ℕ) (old out : List ℕ) → Walks table word (Ok g) old out
       → (i : ℕ) → i + k ≤ g → (x : ℕ) × (get_or out i 0 ≡ 2 ^ x)
 
 -- They hold of everything that a call may ask.
@@ -96,8 +91,8 @@ pub record Demand (A : Asked) : Type 0 where
   pub prepared : (a : Prepared) (old table old' letters : List ℕ) → sets_from + A.means.n * A.means.m ≤ length old
       → A.means.n * A.means.n ≤ length old' → Prepares A a old table old' letters → Right A.means a
   -- with a loop as evidence, to which the separate check says yes
-  pub evidence : (e : Evidence) (old letters : List ℕ) → EitherCall A (Unpredictable e) old letters
-      → (r : Checked) → Checks A e letters r → r ≡ Yes
+  pub evidence : (e : Evidence) (old letters : List ℕ) → EitherCall A (Err (Unpredictable e)) old letters
+      → (r : Result Bool Refusal) → Checks A e letters r → r ≡ Ok true
   -- the count never exceeds n (n - 1) / 2, or n - 1 where there is only one code
   pub bound : (k : ℕ) → Lookahead A.means k → k ≤ A.means.n * (A.means.n - 1) / 2
   pub bound_one_letter : A.means.m ≡ 1 → (k : ℕ) → Lookahead A.means k → k ≤ A.means.n - 1

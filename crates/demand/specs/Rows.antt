@@ -1,34 +1,27 @@
 -- What the calls answer on plans A to H, as documents 01 and 02 say it, and on plans of our own: the look-ahead, the possible states of a
 -- walk, verdicts, opening; claims said yes and no, a forged record that meets 14 (W-202), and the need of each critical set (W-205).
 -- Assumes nothing.
-use Rattle.std.specs.Prelude.{ℕ, ◌+◌, ◌-◌, ◌*◌, ◌/◌, ◌≤◌, ◌<◌, Bool, true, false, ◌≡◌, List, [], ◌∷◌, length, get_or}
+use Rattle.std.specs.Prelude.{ℕ, ◌+◌, ◌-◌, ◌*◌, ◌/◌, ◌≤◌, ◌<◌, Bool, true, false, ◌≡◌, List, [], ◌∷◌, length, get_or, Result, Ok}
 use Rattle.std.proofs.Math.Option.{Option, some, none}
 use Rattle.semiautomata.specs.Sizes.{endless, unmeasured}
 use Rattle.streaming.specs.Calls as reply
 use Rattle.refusals.specs.Outcomes.{refused, answered}
+use Rattle.refusals.specs.Named.{outcome_of}
+use Rattle.refusals.specs.declared.Refusal.{Refusal}
 use Rattle.plan.specs.Asked.{Asked}
 use Rattle.plan.specs.Bytes.{asked}
 use Rattle.samples.specs.Plans.{Sample, bytes, AsSaid, A, B, C, D, E, F, G, H, C', B', B'', D', T₀, T₁, T₂, S₀, S₇}
 use Rattle.table.specs.Table.{sets_from}
 use Rattle.lookahead.specs.declared.Evidence.{Evidence}
-use Rattle.claim.specs.declared.Checked.{Checked}
-use Rattle.claim.specs.declared.Checked.TheVariants.{Yes, No}
 use Rattle.claim.specs.Checking.{Checks}
-use Rattle.prepare.specs.declared.Prepared.{Prepared}
-use Rattle.prepare.specs.Preparing.{outcome_of_prepared, Prepares, CountsTo, Draws}
+use Rattle.prepare.specs.Preparing.{Prepared, outcome_of_prepared, Prepares, CountsTo, Draws}
 use Rattle.slices.specs.Copying.{at_front}
-use Rattle.needs.specs.declared.Needs.{Needs}
-use Rattle.needs.specs.Needs.{outcome_of_needs, NeedsOf}
+use Rattle.needs.specs.Needs.{NeedsOf}
 use Rattle.simulate.specs.declared.Verdict.{Verdict}
-use Rattle.simulate.specs.declared.Walked.{Walked}
-use Rattle.simulate.specs.declared.Walked.TheVariants.{Upto}
-use Rattle.simulate.specs.declared.Judged.{Judged}
-use Rattle.simulate.specs.declared.Judged.TheVariants.{Told}
 use Rattle.simulate.specs.Walking.{Walks}
 use Rattle.simulate.specs.Verdicts.{Judges}
-use Rattle.deciding.specs.declared.Answer.{Answer}
 use Rattle.records.specs.Bytes.{held_from}
-use Rattle.deciding.specs.Replies.{said}
+use Rattle.deciding.specs.Replies.{Answer, said}
 use Rattle.predictor.specs.Calls.{Opens, Feeds}
 use Rattle.demand.specs.Demand.{Made}
 
@@ -63,21 +56,21 @@ drawn none = 65551
 -- What is said beside is so of the calls, those on a table being lent one that preparing made from what is asked.
 abbrev pub IsSo : Asked → Saying → Type 0
 IsSo A (walked word sets) =
-    (k : ℕ) (table old out : List ℕ) (a : Walked) → Made A k table → length word < length old → Walks table word a old out
-    → (a ≡ Upto (length word)) × ((i : ℕ) → i ≤ length word → get_or out i 0 ≡ get_or sets i 0)
-IsSo A (judged q a word v) = (k : ℕ) (table : List ℕ) (r : Judged) → Made A k table → Judges table q a word r → r ≡ Told v
+    (k : ℕ) (table old out : List ℕ) (a : Result ℕ Refusal) → Made A k table → length word < length old → Walks table word a old out
+    → (a ≡ Ok (length word)) × ((i : ℕ) → i ≤ length word → get_or out i 0 ≡ get_or sets i 0)
+IsSo A (judged q a word v) = (k : ℕ) (table : List ℕ) (r : Result Verdict Refusal) → Made A k table → Judges table q a word r → r ≡ Ok v
 IsSo A unopened =
     (k : ℕ) (table bytes left : List ℕ) (a : Answer) → Made A k table → held_from + k ≤ length bytes → Opens table bytes a left
     → said a ≡ reply.refused 13
 IsSo A at_bound = (k : ℕ) (table : List ℕ) → Made A k table → k ≡ A.means.n * (A.means.n - 1) / 2
-IsSo A (claimed e letters) = (r : Checked) → Checks A e letters r → r ≡ Yes
+IsSo A (claimed e letters) = (r : Result Bool Refusal) → Checks A e letters r → r ≡ Ok true
 IsSo A (uncounted q a) =
-    (e : Evidence) (letters : List ℕ) (r : Checked) → e.state ≡ q → e.letter ≡ a → Checks A e letters r → r ≡ No
+    (e : Evidence) (letters : List ℕ) (r : Result Bool Refusal) → e.state ≡ q → e.letter ≡ a → Checks A e letters r → r ≡ Ok false
 IsSo A (forged bytes letter) =
     (k : ℕ) (table left : List ℕ) (a : Answer) → Made A k table → Feeds table bytes letter a left → said a ≡ reply.refused 14
 IsSo A (needed numbers) =
-    (a : Needs) (old needs : List ℕ) → length numbers ≤ length old → NeedsOf A a old needs
-    → (outcome_of_needs a ≡ answered (length numbers)) × (needs ≡ at_front numbers old)
+    (a : Result ℕ Refusal) (old needs : List ℕ) → length numbers ≤ length old → NeedsOf A a old needs
+    → (outcome_of a ≡ answered (length numbers)) × (needs ≡ at_front numbers old)
 
 abbrev pub AllSo : Asked → List Saying → Type 0
 AllSo A [] = Unit {0}

@@ -1,59 +1,34 @@
 // Little-endian numbers in bytes, as plans and records have them: read at a place, and written at a place of a buffer that keeps its rest.
 #![tactic(auto)]
 
-ghost use Rattle.std.specs.Prelude.{◌≡◌, ◌+◌, ◌≤◌, ◌<◌, length, get_or};
+ghost use Rattle.std.specs.Prelude.{◌≡◌, ◌+◌, ◌^◌, ◌≤◌, ◌<◌, length, get_or};
 ghost use Rattle.endian.specs.Numbers.{number_at, bytes_of};
 ghost use Rattle.slices.specs.Copying.{pasted};
 
-fn wide(x: u8) -> u16
-    ensures { (result ≡ x) × (result < 256) }
-{
-    x as u16
-}
-
 // The byte at a place; 0 past the end.
+#[inline(always)]
 pub fn byte_at(bytes: &[u8], i: usize) -> usize
     ensures { (result ≡ get_or bytes.now i 0) × (result < 256) }
 {
-    if i < bytes.len() {
-        bytes[i] as usize
-    } else {
-        0
-    }
+    bytes.get(i).copied().unwrap_or(0) as usize
 }
 
-// The number of two bytes.
-pub fn read_2(bytes: &[u8], at: usize) -> u16
-    requires { at + 2 ≤ length bytes.now }
-    ensures { (result ≡ number_at bytes.now at 2) × (result < 65536) }
+// The number of W bytes.
+#[inline(always)]
+pub fn read<const W: usize>(bytes: &[u8], at: usize) -> u64
+    requires { (W ≤ 8) × (at + W ≤ length bytes.now) }
+    ensures { (result ≡ number_at bytes.now at W) × (result < 256 ^ W) }
 {
-    wide(bytes[at]) + 256 * wide(bytes[at + 1])
+    let mut number = [0; 8];
+    number[..W].copy_from_slice(&bytes[at..at + W]);
+    u64::from_le_bytes(number)
 }
 
-// The number of four bytes.
-pub fn read_4(bytes: &[u8], at: usize) -> u32
-    requires { at + 4 ≤ length bytes.now }
-    ensures { result ≡ number_at bytes.now at 4 }
+// The lowest W bytes of a number.
+#[inline(always)]
+pub fn write<const W: usize>(bytes: &mut [u8], at: usize, x: u32)
+    requires { (W ≤ 4) × (at + W ≤ length bytes.old) }
+    ensures { bytes.new ≡ pasted bytes.old at (bytes_of W x) }
 {
-    let low = read_2(bytes, at) as u32;
-    let high = read_2(bytes, at + 2) as u32;
-    low + 65536 * high
-}
-
-pub fn write_2(bytes: &mut [u8], at: usize, x: u32)
-    requires { at + 2 ≤ length bytes.old }
-    ensures { bytes.new ≡ pasted bytes.old at (bytes_of 2 x) }
-{
-    bytes[at] = (x % 256) as u8;
-    bytes[at + 1] = (x / 256 % 256) as u8;
-}
-
-pub fn write_4(bytes: &mut [u8], at: usize, x: u32)
-    requires { at + 4 ≤ length bytes.old }
-    ensures { bytes.new ≡ pasted bytes.old at (bytes_of 4 x) }
-{
-    bytes[at] = (x % 256) as u8;
-    bytes[at + 1] = (x / 256 % 256) as u8;
-    bytes[at + 2] = (x / 256 / 256 % 256) as u8;
-    bytes[at + 3] = (x / 256 / 256 / 256 % 256) as u8;
+    bytes[at..at + W].copy_from_slice(&x.to_le_bytes()[..W]);
 }

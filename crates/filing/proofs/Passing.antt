@@ -13,19 +13,20 @@ use Rattle.bitset.proofs.Tests.{not_so}
 use Rattle.bitset.proofs.Below.{any_in, any_none}
 use Rattle.semiautomata.specs.Semiautomaton.{Semiautomaton, Within}
 use Rattle.refusals.proofs.First.{passed_first}
+use Rattle.plan.specs.declared.Counts.{Counts}
 use Rattle.plan.specs.declared.Header.{Header}
 use Rattle.plan.specs.declared.Line.{Line}
 use Rattle.plan.specs.Plan.{Plan, line, max_party, is_line, semiautomaton, count_off, twice, start_high, start_off}
 use Rattle.plan.specs.Plan.{line_off, line_twice, has_parties, party_high}
 use Rattle.plan.specs.Asked.{refusal_of}
-use Rattle.plan.specs.Bytes.{header_of, line_width, parsed, meaning, misplaced, plan_checks, WellFormed, PlanCounts, plan_counts}
+use Rattle.plan.specs.Bytes.{header_of, line_width, parsed, meaning, misplaced, plan_checks, WellFormed, counts_of}
 use Rattle.plan.proofs.Refusals.{well_formed_clear, well_formed_within}
 use Rattle.filing.specs.Theorems.{header_in_order, Before, Ascends, SameParts}
 use Rattle.plan.proofs.Plan.{same_line_lem, line_same}
 use Rattle.filing.proofs.Parties.{parties_few, own_parties, line_party}
 
 -- the parts of a header without gaps lie well
-without_gaps : (edition : ℕ) (c : PlanCounts) → misplaced (header_in_order edition c) ≡ false
+without_gaps : (edition : ℕ) (c : Counts) → misplaced (header_in_order edition c) ≡ false
 without_gaps edition c =
     let p = c.p in
     let e = line_width edition * c.e in
@@ -72,7 +73,7 @@ module _ (P : Plan) (W : (party : ℕ) → Within (semiautomaton P party)) (A : 
 
 -- the header of a plan's form
 abbrev pub in_order_of : List ℕ → Header
-in_order_of plan = header_in_order (header_of plan).edition (plan_counts (header_of plan))
+in_order_of plan = header_in_order (header_of plan).edition (counts_of (header_of plan))
 
 module _ (plan bytes : List ℕ) (is : header_of bytes ≡ in_order_of plan) (same : SameParts (parsed bytes) (parsed plan)) where
   pub same_meaning : (party : ℕ) → meaning bytes party ≡ meaning plan party
@@ -102,7 +103,7 @@ module _ (plan bytes : List ℕ) (is : header_of bytes ≡ in_order_of plan) (sa
       rw (le-ltb (length bytes) 16 (omega arith), eq-eqb (header_of bytes).total (length bytes) (sym long)) in
       let c₂ = ap (λ (h : Header). not (eqb h.edition 1 || eqb h.edition 2)) is ∙ edition in
       let c₃ = ap (λ (h : Header). count_off h.n h.m h.p h.e) is ∙ counts in
-      let c₄ = ap misplaced is ∙ without_gaps (header_of plan).edition (plan_counts (header_of plan)) in
+      let c₄ = ap misplaced is ∙ without_gaps (header_of plan).edition (counts_of (header_of plan)) in
       let c₅ = starts_fit (parsed bytes) W A in
       let c₆ = lines_fit (parsed bytes) W A in
       passed_first (plan_checks bytes) (c₁, (c₂, (c₃, (c₄, (c₅, (c₆, (lines_once (parsed bytes) W A, (parties_low w, tt))))))))

@@ -8,12 +8,12 @@ use borrow.Author.Tests.{le-ltb}
 use Rattle.slices.specs.Copying.{at_front}
 use Rattle.plan.specs.declared.Header.{Header}
 use Rattle.plan.specs.Plan.{Plan}
-use Rattle.plan.specs.Bytes.{parsed, unnamed, WellFormed, plan_counts}
+use Rattle.plan.specs.Bytes.{parsed, unnamed, WellFormed, counts_of}
 use Rattle.plan.proofs.Asked.{refused_passing}
 use Rattle.plan.proofs.Refusals.{unnamed_proper}
 use Rattle.plan.proofs.Readings.{loaded_counts}
-use Rattle.filing.specs.declared.Writing.{Writing}
-use Rattle.filing.specs.declared.Writing.TheVariants.{Bytes, Refused}
+use Rattle.refusals.specs.declared.Refusal.{Refusal}
+use Rattle.std.specs.Prelude.{Result, Ok, Err}
 use Rattle.filing.specs.Filed.{filed}
 use Rattle.filing.specs.Writing.{write_refusal, short_filed, Writes}
 use Rattle.filing.specs.Theorems.{SameParts, Theorems}
@@ -40,11 +40,11 @@ module _ {plan bytes : List ℕ} (f : FormOf plan bytes) where
   filed_again : filed bytes ≡ bytes
   filed_again = filed_same bytes plan edition_kept n_kept m_kept f.parts ∙ sym f.is
 
-  written_again : (a : Writing) (old out : List ℕ) → Writes bytes a old out → length bytes ≤ length old
-      → (a ≡ Bytes (length bytes)) × (out ≡ at_front bytes old)
-  written_again (Bytes count) old out (_, (c, o)) h =
-      (ap Bytes (c ∙ ap length filed_again), o ∙ ap (λ (b : List ℕ). at_front b old) filed_again)
-  written_again (Refused r) old out (e, n, _) h =
+  written_again : (a : Result ℕ Refusal) (old out : List ℕ) → Writes bytes a old out → length bytes ≤ length old
+      → (a ≡ Ok (length bytes)) × (out ≡ at_front bytes old)
+  written_again (Ok count) old out (_, (c, o)) h =
+      (ap Ok (c ∙ ap length filed_again), o ∙ ap (λ (b : List ℕ). at_front b old) filed_again)
+  written_again (Err r) old out (e, n, _) h =
       let clear : write_refusal bytes (length old) ≡ 0 =
       refused_passing (unnamed bytes) (unnamed_proper bytes) form_passes (short_filed bytes (length old))
       ∙ rw (filed_again, le-ltb (length old) (length bytes) h) in
@@ -52,7 +52,7 @@ module _ {plan bytes : List ℕ} (f : FormOf plan bytes) where
 
 pub theorems : Theorems
 theorems = record {
-  reads = λ plan bytes w. let f = written_form plan bytes w in sym (loaded_counts bytes (form_passes f) (ap plan_counts f.header));
+  reads = λ plan bytes w. let f = written_form plan bytes w in sym (loaded_counts bytes (form_passes f) (ap counts_of f.header));
   means = λ plan bytes w. let f = written_form plan bytes w in same_meaning plan bytes f.header f.parts;
   parts = λ plan bytes w. (written_form plan bytes w).parts;
   order = λ plan bytes w. (written_form plan bytes w).order;

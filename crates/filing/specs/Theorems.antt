@@ -1,15 +1,15 @@
 -- What follows of writing (document 02, W-201 and W-207), of any reply and memory that meet its promise; proofs/Theorems.antt has the
 -- proofs.
 -- Assumes nothing.
-use Rattle.std.specs.Prelude.{ℕ, ◌+◌, ◌*◌, ◌≤◌, ◌<◌, ◌≡◌, ◌⊎◌, ◌↔◌, List, length, take}
+use Rattle.std.specs.Prelude.{ℕ, ◌+◌, ◌*◌, ◌≤◌, ◌<◌, ◌≡◌, ◌⊎◌, ◌↔◌, List, length, take, Result, Ok}
+use Rattle.refusals.specs.declared.Refusal.{Refusal}
 use Rattle.refusals.specs.Outcomes.{answered}
 use Rattle.slices.specs.Copying.{at_front}
+use Rattle.plan.specs.declared.Counts.{Counts}
 use Rattle.plan.specs.declared.Line.{Line}
 use Rattle.plan.specs.Plan.{Plan, is_start, is_line}
-use Rattle.plan.specs.Bytes.{header_of, line_width, parsed, meaning, PlanCounts, plan_counts, reading}
+use Rattle.plan.specs.Bytes.{header_of, line_width, parsed, meaning, counts_of, reading}
 use Rattle.plan.specs.declared.Header.{Header}
-use Rattle.filing.specs.declared.Writing.{Writing}
-use Rattle.filing.specs.declared.Writing.TheVariants.{Bytes}
 use Rattle.filing.specs.Filed.{max_written}
 use Rattle.filing.specs.Writing.{Writes}
 
@@ -18,11 +18,11 @@ pub record WrittenFor (plan bytes : List ℕ) : Type 0 where
   pub count : ℕ
   pub old : List ℕ
   pub out : List ℕ
-  pub writes : Writes plan (Bytes count) old out
+  pub writes : Writes plan (Ok count) old out
   pub are : bytes ≡ take count out
 
 -- The header of the form: starts at 16, lines directly after them, and no more.
-abbrev pub header_in_order : ℕ → PlanCounts → Header
+abbrev pub header_in_order : ℕ → Counts → Header
 header_in_order edition c = record {
   edition = edition;
   n = c.n;
@@ -54,7 +54,7 @@ pub record SameParts (P Q : Plan) : Type 0 where
 
 pub record Theorems : Type 0 where
   -- Reading what was written answers the plan's n, m, p and e, so that none of 1 to 7 and 16 applies;
-  pub reads : (plan bytes : List ℕ) → WrittenFor plan bytes → reading bytes ≡ answered (plan_counts (header_of plan))
+  pub reads : (plan bytes : List ℕ) → WrittenFor plan bytes → reading bytes ≡ answered (counts_of (header_of plan))
   -- it means what the plan means, for every party;
   pub means : (plan bytes : List ℕ) → WrittenFor plan bytes → (party : ℕ) → meaning bytes party ≡ meaning plan party
   -- it has the plan's starts and lines and no others,
@@ -63,7 +63,7 @@ pub record Theorems : Type 0 where
   pub order : (plan bytes : List ℕ) → WrittenFor plan bytes → Ascends (parsed bytes)
   -- and no gap: edition and counts are as they were, the header says where the parts stand, and the bytes end with them.
   pub header : (plan bytes : List ℕ) → WrittenFor plan bytes
-      → (header_of bytes ≡ header_in_order (header_of plan).edition (plan_counts (header_of plan))) × (length bytes ≡ (header_of bytes).total)
+      → (header_of bytes ≡ header_in_order (header_of plan).edition (counts_of (header_of plan))) × (length bytes ≡ (header_of bytes).total)
   -- It has no more bytes than the form of the largest plan.
   pub most : (plan bytes : List ℕ) → WrittenFor plan bytes → length bytes ≤ max_written
   -- Within one edition equal n, m, starts and lines give equal bytes, different ones different bytes; so do different editions.
@@ -72,5 +72,5 @@ pub record Theorems : Type 0 where
       ↔ (((parsed plan).edition ≡ (parsed plan').edition) × ((parsed plan).n ≡ (parsed plan').n) × ((parsed plan).m ≡ (parsed plan').m)
       × SameParts (parsed plan) (parsed plan'))
   -- Writing what was written gives the same bytes, wherever there is room for them.
-  pub again : (plan bytes : List ℕ) → WrittenFor plan bytes → (a : Writing) (old out : List ℕ) → Writes bytes a old out
-      → length bytes ≤ length old → (a ≡ Bytes (length bytes)) × (out ≡ at_front bytes old)
+  pub again : (plan bytes : List ℕ) → WrittenFor plan bytes → (a : Result ℕ Refusal) (old out : List ℕ) → Writes bytes a old out
+      → length bytes ≤ length old → (a ≡ Ok (length bytes)) × (out ≡ at_front bytes old)

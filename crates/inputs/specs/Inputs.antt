@@ -1,7 +1,6 @@
 -- The input of a program (document 01, The report): plan bytes, and then more. The plan is as long as its total says.
 -- Assumes nothing.
 use Rattle.std.specs.Prelude.{ℕ, max, Bool, ◌||◌, List, ltb, length, take}
-use Rattle.plan.specs.declared.Header.{Header}
 use Rattle.plan.specs.Bytes.{header_of}
 
 abbrev pub total_of : List ℕ → ℕ

@@ -12,17 +12,17 @@ pub fn total(input: &[u8]) -> usize
 }
 
 // Refusal 1.
+#[tactic(auto, unfolding(crate::specs::Inputs::no_plan))]
 pub fn no_plan(input: &[u8]) -> bool
     ensures { result ≡ no_plan input.now }
 {
     let end = total(input);
-    (input.len() < 16) | ((end < 16) | (input.len() < end))
+    input.len() < 16 || end < 16 || input.len() < end
 }
 
 // How many bytes of an input are wanted for its plan, as far as these say.
 pub fn wanted(input: &[u8]) -> usize
     ensures { (result ≡ Inputs·wanted input.now) × (result < 65536) }
 {
-    let end = total(input);
-    if end < 16 { 16 } else { end }
+    total(input).max(16)
 }

@@ -5,9 +5,10 @@ use mathlib.Core.Bool.{Bool, true, false, cond}
 use mathlib.Core.List.{List, []}
 use native.Mathlib.Omega.{arith}
 use lib.ListN.{length, length-append}
+use Rattle.std.specs.Prelude.{Option, None, Some}
 use Rattle.bitset.specs.Numbers.{has}
 use Rattle.refusals.specs.declared.Group.{Group}
-use Rattle.refusals.specs.declared.Group.TheVariants.{Author, Caller, Logger, Nobody}
+use Rattle.refusals.specs.declared.Group.TheVariants.{Author, Caller, Logger}
 use Rattle.refusals.specs.Groups.{group_of}
 use Rattle.slices.specs.Appending.{each}
 use Rattle.lines.specs.Lines.{stakes, codes, starts, lines, look_ahead, at_word, stake, open_word, space, refused_word, group_word, field}
@@ -18,11 +19,11 @@ field_width : (word : List ℕ) (c x : ℕ) → x < 10 ^ suc c → length (field
 unfolding field
 field_width word c x h = rw length-append (omega (arith, decimal_length c x h))
 
-group_width : (g : Group) → length (group_word g) ≤ 7
-group_width Author = omega arith
-group_width Caller = omega arith
-group_width Logger = omega arith
-group_width Nobody = omega arith
+group_width : (g : Option Group) → length (group_word g) ≤ 7
+group_width (Some Author) = omega arith
+group_width (Some Caller) = omega arith
+group_width (Some Logger) = omega arith
+group_width None = omega arith
 
 pub counts_width : (n m p e : ℕ) → n < 2 ^ 16 → m < 2 ^ 16 → p < 2 ^ 16 → e < 2 ^ 16 → length (counts_line n m p e) ≤ 50
 unfolding counts_line
@@ -62,3 +63,5 @@ pub open_width_lem : (position set : ℕ) → position < 2 ^ 64 → length (open
 unfolding open_line
 open_width_lem position set h =
     simp length-append (omega (arith, field_width open_word 19 position (omega arith), listed_width 64 (has set) (omega arith)))
+
+pub ruleset widths = (counts_width, lookahead_width, refused_width, resolution_width, open_width_lem)

@@ -1,11 +1,11 @@
 -- The report's lines as bytes (document 01, The report). A line ends in a line feed.
 -- Assumes nothing.
-use Rattle.std.specs.Prelude.{ℕ, Bool, List, [], ◌∷◌, ◌++◌}
+use Rattle.std.specs.Prelude.{ℕ, Bool, Option, None, Some, List, [], ◌∷◌, ◌++◌}
 use Rattle.slices.specs.Appending.{passing}
 use Rattle.decimals.specs.Decimals.{decimal}
 use Rattle.bitset.specs.Numbers.{has}
 use Rattle.refusals.specs.declared.Group.{Group}
-use Rattle.refusals.specs.declared.Group.TheVariants.{Author, Caller, Logger, Nobody}
+use Rattle.refusals.specs.declared.Group.TheVariants.{Author, Caller, Logger}
 use Rattle.refusals.specs.Groups.{group_of}
 
 -- The words, with the spaces that stand beside them.
@@ -48,11 +48,11 @@ abbrev pub refused_word : List ℕ
 refused_word = 114 ∷ 101 ∷ 102 ∷ 117 ∷ 115 ∷ 101 ∷ 100 ∷ 32 ∷ []
 
 -- ` author`, ` caller`, ` logger`; a number that is no refusal has no word
-abbrev pub group_word : Group → List ℕ
-group_word Author = 32 ∷ 97 ∷ 117 ∷ 116 ∷ 104 ∷ 111 ∷ 114 ∷ []
-group_word Caller = 32 ∷ 99 ∷ 97 ∷ 108 ∷ 108 ∷ 101 ∷ 114 ∷ []
-group_word Logger = 32 ∷ 108 ∷ 111 ∷ 103 ∷ 103 ∷ 101 ∷ 114 ∷ []
-group_word Nobody = []
+abbrev pub group_word : Option Group → List ℕ
+group_word (Some Author) = 32 ∷ 97 ∷ 117 ∷ 116 ∷ 104 ∷ 111 ∷ 114 ∷ []
+group_word (Some Caller) = 32 ∷ 99 ∷ 97 ∷ 108 ∷ 108 ∷ 101 ∷ 114 ∷ []
+group_word (Some Logger) = 32 ∷ 108 ∷ 111 ∷ 103 ∷ 103 ∷ 101 ∷ 114 ∷ []
+group_word None = []
 
 abbrev pub line_feed : List ℕ
 line_feed = 10 ∷ []

@@ -1,12 +1,9 @@
 -- What the look-ahead of successor sets is answered with, and what stands in the lent letters.
 -- Assumes nothing.
-use Rattle.std.specs.Prelude.{ℕ, ◌+◌, ◌≡◌, List, drop}
+use Rattle.std.specs.Prelude.{ℕ, ◌+◌, ◌≡◌, List, drop, Result, Ok, Err}
 use Rattle.semiautomata.specs.Semiautomaton.{Semiautomaton}
-use Rattle.semiautomata.specs.Predictability.{Claimed}
-use Rattle.semiautomata.specs.Predictability as predictability
+use Rattle.semiautomata.specs.Predictability.{Claimed, Lookahead}
 use Rattle.lookahead.specs.declared.Evidence.{Evidence}
-use Rattle.lookahead.specs.declared.Found.{Found}
-use Rattle.lookahead.specs.declared.Found.TheVariants.{Lookahead, Never}
 
 -- Evidence as a claim: with these letters it is true of S.
 abbrev pub TrueOf : Semiautomaton → Evidence → List ℕ → Type 0
@@ -14,7 +11,7 @@ TrueOf S e letters = Claimed S e.state e.letter e.low e.high e.stem e.cycle lett
 
 -- k is the look-ahead, and the letters are untouched; or the evidence that there is none is a true claim with the letters now lent, of
 -- which those past its lengths are kept.
-abbrev pub Answers : Semiautomaton → Found → List ℕ → List ℕ → Type 0
-Answers S (Lookahead k) old letters = predictability.Lookahead S k × (letters ≡ old)
-Answers S (Never e) old letters =
+abbrev pub Answers : Semiautomaton → Result ℕ Evidence → List ℕ → List ℕ → Type 0
+Answers S (Ok k) old letters = Lookahead S k × (letters ≡ old)
+Answers S (Err e) old letters =
     TrueOf S e letters × (drop (e.stem + e.cycle) letters ≡ drop (e.stem + e.cycle) old)

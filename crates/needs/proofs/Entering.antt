@@ -4,7 +4,7 @@ use mathlib.Core.Bool.{true}
 use mathlib.Core.Path.{◌≡◌, refl, sym, ◌∙◌, ap}
 use mathlib.Core.Logic.{◌⊎◌, inl, inr, ⊎_elim}
 use mathlib.Core.List.{List, ◌++◌}
-use Prim.Native.Nat.{ℕ, ◌+◌, ◌*◌, ◌^◌, ◌≤◌, ◌<◌}
+use Prim.Native.Nat.{ℕ, ◌+◌, ◌*◌, ◌≤◌, ◌<◌}
 use native.Mathlib.Decide.{ℕ_discrete, dec_lt}
 use native.Mathlib.Nat.{zero-mul, suc-mul}
 use native.Mathlib.Numerals.{add-one}
@@ -14,9 +14,11 @@ use lib.Seq.{get_or-set_same, get_or-set_other, get_or-take, get_or-drop, length
 use Rattle.bitset.specs.Numbers.{has, set_of}
 use Rattle.semiautomata.specs.Predictability.{Critical, initial, fork}
 use Rattle.semiautomata.specs.Access.{accessible}
-use Rattle.semiautomata.specs.Successors.{place, successors, set_at, Fit}
+use Rattle.semiautomata.specs.Successors.{place, set_at}
+use Rattle.semiautomata.specs.Means.{means}
+use Rattle.semiautomata.specs.declared.successors.Successors.{Successors}
 use Rattle.semiautomata.proofs.Places.{place_same}
-use Rattle.semiautomata.proofs.Successors.{place_lt}
+use Rattle.semiautomata.proofs.BySets.{place_lt}
 use Rattle.pairs.specs.Lifetimes.{Lifetimes}
 use Rattle.lookahead.specs.Rivals.{Rivalry}
 use Rattle.needs.specs.Needs.{Says, Of, place_of, Filled}
@@ -74,32 +76,31 @@ module _ {numbers : List ℕ} {m : ℕ} {sets : List ℕ} {reached : ℕ} where
   forks_rows q k l = let e : (q + 1) * m ≡ place m q m = rw add-one (suc-mul q m) in rw e (forks_then (omega arith) (omega arith) k l)
 
 -- all numbers together
-module _ (n m starts : ℕ) (sets : List ℕ) (F : Fit n m sets) (H : starts < 2 ^ n) {rival numbers : List ℕ}
-    (G : Rivalry (successors n m starts sets) rival) (L : Lifetimes (successors n m 0 sets) rival numbers)
-    {reached : ℕ} (R : reached ≡ set_of n (accessible (successors n m starts sets))) where
-  pub filled : {v : ℕ} {old needs : List ℕ} → n * m + 1 ≤ length old → Entered numbers starts true v
-      → ForksEntered numbers m sets reached 0 (n * m) (set old 0 v) needs → Filled (successors n m starts sets) old needs
+module _ (x : Successors) {rival numbers : List ℕ} (G : Rivalry (means x) rival) (L : Lifetimes (means x) rival numbers)
+    {reached : ℕ} (R : reached ≡ set_of x.n (accessible (means x))) where
+  pub filled : {v : ℕ} {old needs : List ℕ} → x.n * x.m + 1 ≤ length old → Entered numbers x.starts true v
+      → ForksEntered numbers x.m x.sets.now reached 0 (x.n * x.m) (set old 0 v) needs → Filled (means x) old needs
   filled {v} {old} {needs} room e k = record {
-    numbers = take (n * m + 1) needs;
+    numbers = take (x.n * x.m + 1) needs;
     tells = record { long = count; says = says };
-    is = sym (take-append-drop (n * m + 1) needs)
-        ∙ ap (λ (rest : List ℕ). take (n * m + 1) needs ++ rest) (rw count (rest ∙ drop-set-lt (n * m + 1) old 0 v (omega arith)));
+    is = sym (take-append-drop (x.n * x.m + 1) needs)
+        ∙ ap (λ (rest : List ℕ). take (x.n * x.m + 1) needs ++ rest) (rw count (rest ∙ drop-set-lt (x.n * x.m + 1) old 0 v (omega arith)));
   }
     where
-      count : length (take (n * m + 1) needs) ≡ n * m + 1
-      count = length-take-le (n * m + 1) needs (omega (arith, room, k.long, length-set old 0 v))
+      count : length (take (x.n * x.m + 1) needs) ≡ x.n * x.m + 1
+      count = length-take-le (x.n * x.m + 1) needs (omega (arith, room, k.long, length-set old 0 v))
 
-      rest : drop (n * m + 1) needs ≡ drop (n * m + 1) (set old 0 v)
+      rest : drop (x.n * x.m + 1) needs ≡ drop (x.n * x.m + 1) (set old 0 v)
       rest = ext_get_or 0 _ _ (rw (length-drop, length-drop, k.long)) λ i h.
-          rw (get_or-drop, get_or-drop) (k.kept (n * m + 1 + i) (inr (omega arith)))
+          rw (get_or-drop, get_or-drop) (k.kept (x.n * x.m + 1 + i) (inr (omega arith)))
 
-      says : (T : Critical) → Of (successors n m starts sets) T
-          → Says (successors n m starts sets) T (get_or (take (n * m + 1) needs) (place_of (successors n m starts sets) T) 0)
+      says : (T : Critical) → Of (means x) T
+          → Says (means x) T (get_or (take (x.n * x.m + 1) needs) (place_of (means x) T) 0)
       says initial _ =
-          let z : get_or (take (n * m + 1) needs) 0 0 ≡ v =
-          get_or-take (n * m + 1) needs 0 0 (omega arith) ∙ k.kept 0 (inl (omega arith)) ∙ get_or-set_same old 0 v 0 (omega (arith, room)) in
-          rw z (says_initial n m starts sets F H G L e)
+          let z : get_or (take (x.n * x.m + 1) needs) 0 0 ≡ v =
+          get_or-take (x.n * x.m + 1) needs 0 0 (omega arith) ∙ k.kept 0 (inl (omega arith)) ∙ get_or-set_same old 0 v 0 (omega (arith, room)) in
+          rw z (says_initial x G L e)
       says (fork q a) (h, g) =
-          let l = place_lt n m q a h g in
-          rw (get_or-take (n * m + 1) needs (place m q a + 1) 0 (omega (arith, l)))
-          (says_fork n m starts sets F H G L R q a h g (k.entered q a g (omega arith) l))
+          let l = place_lt x.n x.m q a h g in
+          rw (get_or-take (x.n * x.m + 1) needs (place x.m q a + 1) 0 (omega (arith, l)))
+          (says_fork x G L R q a h g (k.entered q a g (omega arith) l))

@@ -15,7 +15,7 @@ use Rattle.semiautomata.specs.Semiautomaton.{Semiautomaton, Within}
 use Rattle.semiautomata.specs.Predictability.{Critical, initial, fork, member, Lookahead, Unpredictable}
 use Rattle.semiautomata.proofs.Shares.{set_more}
 use Rattle.semiautomata.proofs.Decide.{unpredictable_witness, witness_endless}
-use Rattle.semiautomata.proofs.Successors.{state_lt, letter_lt, place_of_lem, place_lt}
+use Rattle.semiautomata.proofs.BySets.{state_lt, letter_lt, place_of_lem, place_lt}
 use Rattle.semiautomata.specs.Sizes.{endless, unmeasured}
 use Rattle.needs.specs.Needs.{Measured, NoNeed, Says, Of, place_of, entries, TellsNeeds, larger, largest}
 use Rattle.needs.specs.Theorems.{SomeEndless}

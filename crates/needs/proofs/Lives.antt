@@ -5,17 +5,17 @@ use mathlib.Core.Bool.{and-true, and-false, and-not_self, and-or_distrib_left, a
 use mathlib.Core.Path.{◌≡◌, refl, sym, ◌∙◌}
 use mathlib.Core.Logic.{◌⊎◌, inl, inr}
 use mathlib.Core.List.{List}
-use Prim.Native.Nat.{ℕ, ◌-◌, ◌≤◌, ◌<◌}
+use Prim.Native.Nat.{ℕ, ◌≤◌, ◌<◌, max}
 use native.Mathlib.Decide.{ℕ_discrete, dec_lt}
 use native.Mathlib.Omega.{arith}
 use lib.Bits.{bit_and}
-use lib.Count.{count_trailing_zeros}
 use lib.Dec.{eqb, ltb}
 use borrow.Author.Tests.{eqb-true, eqb-false, ne_eqb, eq-eqb, lt-ltb, le-ltb, ltb-true, not-true}
 use Rattle.bitset.specs.Numbers.{has, set_of}
 use Rattle.bitset.proofs.Tests.{and_in, and_out, or_left, or_right, or_cases}
 use Rattle.bitset.proofs.Bits.{has_and, has_set_of}
-use Rattle.bitset.proofs.Taking.{Left, taken, taken_with, taken_all}
+use Rattle.bitset.specs.Members.{Taken}
+use Rattle.bitset.proofs.Taking.{Left, taken, taken_with, taken_all, next_below}
 use Rattle.pairs.specs.Lifetimes.{lifetime}
 use Rattle.semiautomata.specs.Sizes.{endless, unmeasured}
 use Rattle.needs.specs.inner.Longest.{Most, LongestLived}
@@ -31,6 +31,9 @@ below_is set z t h = has_and set _ t ∙ elim (dec_lt t z) [
   | yes g ↦ rw (has_set_of, lt-ltb t 64 (omega arith), lt-ltb t z g, and-true)
   | no g ↦ rw (has_set_of, le-ltb t z (omega arith), and-false, and-false)
 ]
+
+one_of : (a b : ℕ) → (max a b ≡ a) ⊎ (max a b ≡ b)
+one_of a b = elim (dec_lt a b) [ yes h ↦ inr (omega (arith, h)) | no h ↦ inl (omega (arith, h)) ]
 
 module _ (numbers : List ℕ) where
   most_none : {P : ℕ → ℕ → Bool} {r : ℕ} → ((s t : ℕ) → P s t ≡ false) → Most numbers P r r
@@ -74,11 +77,11 @@ module _ (numbers : List ℕ) where
     with_first = most_none λ x t. rw (and-not_self (has others t), and-false)
 
     module _ {rest r : ℕ} (l : Left 64 others rest) (k : Most numbers (λ x t. eqb s x && taken others rest t) before r) where
-      pub with_next : {more : ℕ} → 0 < rest → r ≤ more → lifetime numbers s (count_trailing_zeros 64 rest) ≤ more
-          → (more ≡ r) ⊎ (more ≡ lifetime numbers s (count_trailing_zeros 64 rest))
-          → Most numbers (λ x t. eqb s x && taken others (bit_and rest (rest - 1)) t) before more
-      with_next p h g c =
-          most_then (λ x t. rw (taken_with l p t, and-or_distrib_left)) k (most_one s (count_trailing_zeros 64 rest) h g c)
+      pub with_next : {t left : ℕ} → Taken rest t left
+          → Most numbers (λ x u. eqb s x && taken others left u) before (max r (lifetime numbers s t))
+      with_next {t} p =
+          most_then (λ x u. rw (taken_with l p u, and-or_distrib_left)) k
+          (most_one s t (omega arith) (omega arith) (one_of r (lifetime numbers s t)))
 
       pub with_all : rest ≡ 0 → Most numbers (λ x t. eqb s x && has others t) before r
       with_all e = record {
@@ -96,19 +99,13 @@ module _ (numbers : List ℕ) where
     set_first = most_none λ x t. rw (and-not_self (has set x))
 
     module _ {rest longest : ℕ} (l : Left 64 set rest) (k : Most numbers (lower set rest) 0 longest) where
-      pub set_next : {r : ℕ} → 0 < rest → count_trailing_zeros 64 rest < 64
-          → Most numbers (λ x t. eqb (count_trailing_zeros 64 rest) x && has (bit_and set (set_of 64 (λ t. ltb t (count_trailing_zeros 64 rest)))) t)
-          longest r
-          → Most numbers (lower set (bit_and rest (rest - 1))) 0 r
-      set_next p h q = most_then one_more k q
+      pub set_next : {z left r : ℕ} → Taken rest z left
+          → Most numbers (λ x t. eqb z x && has (bit_and set (set_of 64 (λ t. ltb t z))) t) longest r → Most numbers (lower set left) 0 r
+      set_next {z} {left} p q = most_then one_more k q
         where
-          z : ℕ
-          z = count_trailing_zeros 64 rest
-
-          one_more : (x t : ℕ) → lower set (bit_and rest (rest - 1)) x t
-              ≡ (lower set rest x t || eqb z x && has (bit_and set (set_of 64 (λ t. ltb t z))) t)
+          one_more : (x t : ℕ) → lower set left x t ≡ (lower set rest x t || eqb z x && has (bit_and set (set_of 64 (λ t. ltb t z))) t)
           one_more x t = elim (ℕ_discrete z x) [
-            | yes e ↦ rw (taken_with l p x, and-or_distrib_right, below_is set z t h, e)
+            | yes e ↦ rw (taken_with l p x, and-or_distrib_right, below_is set z t (next_below l p), e)
             | no e ↦ rw (taken_with l p x, and-or_distrib_right, ne_eqb z x e)
           ]
 

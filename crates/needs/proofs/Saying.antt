@@ -4,7 +4,7 @@ use mathlib.Core.Bool.{Bool, true, false≢true}
 use mathlib.Core.Path.{◌≡◌, refl, sym, ◌∙◌}
 use mathlib.Core.Logic.{inl, inr}
 use mathlib.Core.List.{List}
-use Prim.Native.Nat.{ℕ, ◌^◌, ◌≤◌, ◌<◌}
+use Prim.Native.Nat.{ℕ, ◌≤◌, ◌<◌}
 use native.Mathlib.Decide.{ℕ_discrete}
 use native.Mathlib.Omega.{arith}
 use Rattle.bitset.specs.Numbers.{has, set_of}
@@ -14,17 +14,19 @@ use Rattle.bitset.proofs.Bits.{has_empty, some_member}
 use Rattle.semiautomata.specs.Semiautomaton.{Semiautomaton, Within}
 use Rattle.semiautomata.specs.Predictability.{Critical, initial, fork, member, Need}
 use Rattle.semiautomata.specs.Access.{accessible}
-use Rattle.semiautomata.specs.Successors.{successors, set_at, Fit}
+use Rattle.semiautomata.specs.Successors.{set_at}
+use Rattle.semiautomata.specs.Means.{means}
+use Rattle.semiautomata.specs.declared.successors.Successors.{Successors}
 use Rattle.semiautomata.proofs.Shares.{share_swap, share_shorter, member_lt, clash_ordered}
 use Rattle.semiautomata.proofs.Bound.{need_bound}
-use Rattle.semiautomata.proofs.Successors.{edge_is, fit_within}
+use Rattle.semiautomata.proofs.BySets.{edge_is}
 use Rattle.semiautomata.proofs.Places.{place_fits}
 use Rattle.table.proofs.Fitness.{pairs_le}
+use Rattle.walks.proofs.Steps.{means_within}
 use Rattle.walks.proofs.Reaching.{reached_in, reached_out}
 use Rattle.pairs.specs.Lifetimes.{Lifetime, lifetime, Lifetimes}
 use Rattle.lookahead.specs.Rivals.{Rivalry}
 use Rattle.semiautomata.specs.Sizes.{endless, unmeasured}
-use Rattle.pairs.proofs.Starts.{share_starts}
 use Rattle.needs.specs.Needs.{Measured, NoNeed, Says}
 use Rattle.needs.specs.inner.Longest.{LongestLived}
 use Rattle.needs.specs.inner.Entering.{Entered}
@@ -62,20 +64,19 @@ says_need {S} W h T k M d =
       need_is = λ _ _. (M, d);
     }
 
-module _ (n m starts : ℕ) (sets : List ℕ) (F : Fit n m sets) (H : starts < 2 ^ n) {rival numbers : List ℕ}
-    (G : Rivalry (successors n m starts sets) rival) (L : Lifetimes (successors n m 0 sets) rival numbers) where
+module _ (x : Successors) {rival numbers : List ℕ} (G : Rivalry (means x) rival) (L : Lifetimes (means x) rival numbers) where
   abbrev S : Semiautomaton
-  S = successors n m starts sets
+  S = means x
 
   W : Within S
-  W = fit_within n m starts sets F H
+  W = means_within x
 
   module _ (T : Critical) (M : Measured S T) {r : ℕ} (k : LongestLived numbers (member S T) r) where
-    below : (s : ℕ) → member S T s ≡ true → s < n
+    below : (s : ℕ) → member S T s ≡ true → s < x.n
     below = member_lt W T
 
     -- two states of it are rivals, so that their lifetime is known
-    life : {s t : ℕ} → t < s → member S T s ≡ true → member S T t ≡ true → Lifetime (successors n m 0 sets) s t (lifetime numbers s t)
+    life : {s t : ℕ} → t < s → member S T s ≡ true → member S T t ≡ true → Lifetime S s t (lifetime numbers s t)
     life {s} {t} h a b =
         let differ : ¬ (s ≡ t) = λ e. omega arith in
         L.is s t h (below s a) (G.into s t differ (record { set = T; counts = M.0; left = a; right = b }))
@@ -87,7 +88,7 @@ module _ (n m starts : ℕ) (sets : List ℕ) (F : Fit n m sets) (H : starts < 2
         s = s;
         t = t;
         rivals = record { left = a; right = b; differ = omega arith };
-        shared = share_starts n m sets 0 starts ((life h a b).lasts (is ∙ e) j);
+        shared = (life h a b).lasts (is ∙ e) j;
       })
     ]
 
@@ -99,14 +100,14 @@ module _ (n m starts : ℕ) (sets : List ℕ) (F : Fit n m sets) (H : starts < 2
           let h = k.all ne d.t d.s d.rivals.right d.rivals.left o.order in
           let ends : ¬ (lifetime numbers d.t d.s ≡ endless) = λ e. omega (arith, h, ne, k.few) in
           (life o.order d.rivals.right d.rivals.left).ends ends
-          (share_shorter h (share_swap (share_starts n m sets starts 0 d.shared)));
+          (share_shorter h (share_swap d.shared));
       least = λ j g. elim k.some [
         | inl z ↦ absurd (omega arith)
         | inr (s, t, a, b, h, is) ↦ record {
           s = s;
           t = t;
           rivals = record { left = a; right = b; differ = omega arith };
-          shared = share_starts n m sets 0 starts ((life h a b).lives j (omega (arith, is)));
+          shared = (life h a b).lives j (omega (arith, is));
         }
       ];
     }
@@ -114,29 +115,29 @@ module _ (n m starts : ℕ) (sets : List ℕ) (F : Fit n m sets) (H : starts < 2
     says_measured : Says S T r
     says_measured = elim (ℕ_discrete r endless) [
       | yes e ↦ rw e (says_endless M (is_endless e))
-      | no ne ↦ says_need W F.states T r M (is_need ne)
+      | no ne ↦ says_need W x.fit.states T r M (is_need ne)
     ]
 
   -- THE INITIAL STATES AND THE FORK SETS
-  pub says_initial : {v : ℕ} → Entered numbers starts true v → Says S initial v
-  says_initial k = elim (ℕ_discrete starts 0) [
+  pub says_initial : {v : ℕ} → Entered numbers x.starts true v → Says S initial v
+  says_initial k = elim (ℕ_discrete x.starts 0) [
     | yes z ↦ rw (k.idle (inr z)) (says_idle (λ (_, (s, e)). false≢true (sym (has_empty s) ∙ rw z at e)))
     | no ne ↦
-        let (s, _, e) = any_out n _ (some_member n starts (omega (arith, ne)) H) in
+        let (s, _, e) = any_out x.n _ (some_member x.n x.starts (omega (arith, ne)) x.starts_fit) in
         says_measured initial (tt, (s, e)) (k.measured refl ne)
   ]
 
-  pub says_fork : {reached : ℕ} → reached ≡ set_of n (accessible S) → (q a : ℕ) → q < n → a < m → {v : ℕ}
-      → Entered numbers (set_at m sets q a) (has reached q) v → Says S (fork q a) v
+  pub says_fork : {reached : ℕ} → reached ≡ set_of x.n (accessible S) → (q a : ℕ) → q < x.n → a < x.m → {v : ℕ}
+      → Entered numbers (set_at x.m x.sets.now q a) (has reached q) v → Says S (fork q a) v
   says_fork {reached} R q a h g k = elim (decided (has reached q)) [
     | inr off ↦ rw (k.idle (inl off)) (says_idle (λ ((c, _), _). false≢true (sym off ∙ reached_in S R q W h c)))
-    | inl on ↦ elim (ℕ_discrete (set_at m sets q a) 0) [
+    | inl on ↦ elim (ℕ_discrete (set_at x.m x.sets.now q a) 0) [
       | yes z ↦ rw (k.idle (inr z))
-          (says_idle (λ (_, (s, e)). false≢true (sym (rw z (has_empty s)) ∙ sym (edge_is n m starts sets q a s h g) ∙ e)))
+          (says_idle (λ (_, (s, e)). false≢true (sym (rw z (has_empty s)) ∙ sym (edge_is x.n x.m x.starts x.sets.now q a s h g) ∙ e)))
       | no ne ↦
-          let (s, _, e) = any_out n _ (some_member n (set_at m sets q a) (omega (arith, ne)) (place_fits F q a h g)) in
-          let led : S.edge q a s ≡ true = edge_is n m starts sets q a s h g ∙ e in
+          let (s, _, e) = any_out x.n _ (some_member x.n (set_at x.m x.sets.now q a) (omega (arith, ne)) (place_fits x.fit q a h g)) in
+          let led : S.edge q a s ≡ true = edge_is x.n x.m x.starts x.sets.now q a s h g ∙ e in
           says_measured (fork q a) ((reached_out S R q on, (s, led)), (s, led))
-          (longest_same (λ s. edge_is n m starts sets q a s h g) (k.measured on ne))
+          (longest_same (λ s. edge_is x.n x.m x.starts x.sets.now q a s h g) (k.measured on ne))
     ]
   ]

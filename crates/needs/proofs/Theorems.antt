@@ -26,14 +26,15 @@ use Rattle.plan.proofs.Asked.{clear_passes, refused_passing}
 use Rattle.slices.specs.Copying.{at_front}
 use Rattle.table.proofs.Fitness.{pairs_le}
 use Rattle.lookahead.specs.declared.Evidence.{Evidence}
-use Rattle.prepare.specs.declared.Prepared.TheVariants.{Unpredictable}
+use Rattle.prepare.specs.declared.Unprepared.TheVariants.{Unpredictable}
 use Rattle.prepare.specs.Preparing.{LooksAhead}
 use Rattle.prepare.specs.Theorems.{EitherCall}
 use Rattle.prepare.proofs.Refusals.{count_clear, prepare_clear}
 use Rattle.prepare.proofs.Theorems.{theorems as preparing, never}
-use Rattle.needs.specs.declared.Needs.{Needs}
-use Rattle.needs.specs.declared.Needs.TheVariants.{Entries, Refused}
-use Rattle.needs.specs.Needs.{Says, Of, place_of, entries, TellsNeeds, largest, outcome_of_needs, NeedsOf}
+use Rattle.std.specs.Prelude.{Result, Ok, Err}
+use Rattle.refusals.specs.Named.{outcome_of}
+use Rattle.refusals.specs.declared.Refusal.{Refusal}
+use Rattle.needs.specs.Needs.{Says, Of, place_of, entries, TellsNeeds, largest, NeedsOf}
 use Rattle.needs.specs.Theorems.{LookedAhead, SomeEndless, Theorems, Met}
 use Rattle.needs.proofs.Largest.{each_place, in_numbers_lem, member_of, endless_at, lookahead_largest, some_endless}
 use Rattle.needs.proofs.Largest.{unpredictable_endless}
@@ -99,7 +100,7 @@ module _ (A : Asked) (P : Proper A) where
   looked w o (inr (inl (a, old, letters, e, room, d))) = rw (e, ← count_clear A P w room) d.0
   looked w o (inr (inr (r, d, e))) = rw (e, ← w) d.looks_ahead
 
-  module _ (count : ℕ) (old needs : List ℕ) (c : NeedsOf A (Entries count) old needs) where
+  module _ (count : ℕ) (old needs : List ℕ) (c : NeedsOf A (Ok count) old needs) where
     pub passes : Passes A
     passes = clear_passes A P _ c.0
 
@@ -133,7 +134,7 @@ module _ (A : Asked) (P : Proper A) where
     )
 
     -- the evidence is a true claim about its set
-    evidence_endless : (e : Evidence) (old' letters : List ℕ) → EitherCall A (Unpredictable e) old' letters
+    evidence_endless : (e : Evidence) (old' letters : List ℕ) → EitherCall A (Err (Unpredictable e)) old' letters
         → (T : Critical) × (named A.means e.state e.letter ≡ some T) × Of A.means T
         × (get_or (take count needs) (place_of A.means T) 0 ≡ endless)
     evidence_endless e old' letters d =
@@ -169,21 +170,21 @@ module _ (A : Asked) (P : Proper A) where
       evidence_endless = evidence_endless;
     }
 
-  answers : Passes A → (a : Needs) (old needs : List ℕ) → entries A.means ≤ length old → NeedsOf A a old needs
-      → outcome_of_needs a ≡ answered (entries A.means)
-  answers w (Entries c) old needs room (_, (e, _)) = ap answered e
-  answers w (Refused r) old needs room (e, n, _) =
+  answers : Passes A → (a : Result ℕ Refusal) (old needs : List ℕ) → entries A.means ≤ length old → NeedsOf A a old needs
+      → outcome_of a ≡ answered (entries A.means)
+  answers w (Ok c) old needs room (_, (e, _)) = ap answered e
+  answers w (Err r) old needs room (e, n, _) =
       absurd (n (e ∙ refused_passing A P w _ ∙ rw (le-ltb (length old) (entries A.means) room)))
 
-  same : (a b : Needs) (old needs needs' : List ℕ) → NeedsOf A a old needs → NeedsOf A b old needs'
-      → (outcome_of_needs a ≡ outcome_of_needs b) × (needs ≡ needs')
-  same (Entries c) (Entries d) old needs needs' (_, (x, f)) (_, (y, g)) = (
+  same : (a b : Result ℕ Refusal) (old needs needs' : List ℕ) → NeedsOf A a old needs → NeedsOf A b old needs'
+      → (outcome_of a ≡ outcome_of b) × (needs ≡ needs')
+  same (Ok c) (Ok d) old needs needs' (_, (x, f)) (_, (y, g)) = (
     ap answered (x ∙ sym y),
     f.is ∙ ap (λ (numbers : List ℕ). at_front numbers old) (tells_unique f.numbers g.numbers f.tells g.tells) ∙ sym g.is,
   )
-  same (Entries c) (Refused r) old needs needs' (z, _) (e, n, _) = absurd (n (e ∙ z))
-  same (Refused r) (Entries c) old needs needs' (e, n, _) (z, _) = absurd (n (e ∙ z))
-  same (Refused r) (Refused q) old needs needs' (x, _, e) (y, _, f) = (ap refused (x ∙ sym y), e ∙ sym f)
+  same (Ok c) (Err r) old needs needs' (z, _) (e, n, _) = absurd (n (e ∙ z))
+  same (Err r) (Ok c) old needs needs' (e, n, _) (z, _) = absurd (n (e ∙ z))
+  same (Err r) (Err q) old needs needs' (x, _, e) (y, _, f) = (ap refused (x ∙ sym y), e ∙ sym f)
 
 pub met : Met
 met A P = record { answers = answers A P; written = theorems A P; same = same A P }

@@ -1,16 +1,16 @@
 -- The need of each critical set by itself (document 02, W-205): what each number says, in which order they stand, the largest of them;
 -- and the call's refusals in order, its answer and what it writes.
 -- Assumes nothing.
-use Rattle.std.specs.Prelude.{ℕ, ◌+◌, ◌*◌, ◌<◌, Bool, true, cond, ◌↔◌, ◌≡◌, List, [], ◌∷◌, eqb, ltb, length, get_or}
+use Rattle.std.specs.Prelude.{ℕ, ◌+◌, ◌*◌, ◌<◌, Bool, true, cond, ◌↔◌, ◌≡◌, List, [], ◌∷◌, eqb, ltb, length, get_or, Result}
 use Rattle.semiautomata.specs.Semiautomaton.{Semiautomaton}
 use Rattle.semiautomata.specs.Predictability.{Critical, initial, fork, member, Counts, SetPredictable, Need}
 use Rattle.semiautomata.specs.Sizes.{endless, unmeasured}
 use Rattle.semiautomata.specs.Successors.{place}
-use Rattle.refusals.specs.Outcomes.{Outcome, refused, answered, Gives}
+use Rattle.refusals.specs.Outcomes.{Gives}
 use Rattle.slices.specs.Copying.{at_front}
 use Rattle.plan.specs.Asked.{Asked, refusal_with}
-use Rattle.needs.specs.declared.Needs.{Needs}
-use Rattle.needs.specs.declared.Needs.TheVariants.{Entries, Refused}
+use Rattle.refusals.specs.Named.{outcome_of}
+use Rattle.refusals.specs.declared.Refusal.{Refusal}
 
 -- WHAT A NUMBER SAYS
 
@@ -68,19 +68,14 @@ short_needs S size = ltb size (entries S)
 abbrev pub needs_refusal : Asked → ℕ → ℕ
 needs_refusal A size = refusal_with A (short_needs A.means size)
 
--- What is answered: how many numbers are written.
-abbrev pub outcome_of_needs : Needs → Outcome ℕ
-outcome_of_needs (Entries count) = answered count
-outcome_of_needs (Refused r) = refused r
-
 -- The numbers that tell the needs stand at the front of the lent ones, which keep their rest.
 pub record Filled (S : Semiautomaton) (old needs : List ℕ) : Type 0 where
   pub numbers : List ℕ
   pub tells : TellsNeeds S numbers
   pub is : needs ≡ at_front numbers old
 
--- What the call gives.
-abbrev pub NeedsOf : Asked → Needs → List ℕ → List ℕ → Type 0
+-- What the call gives: how many numbers are written.
+abbrev pub NeedsOf : Asked → Result ℕ Refusal → List ℕ → List ℕ → Type 0
 NeedsOf A a old needs =
     Gives (needs_refusal A (length old)) (needs ≡ old) (λ count. (count ≡ entries A.means) × Filled A.means old needs)
-    (outcome_of_needs a)
+    (outcome_of a)

@@ -1,6 +1,6 @@
 -- What follows of the numbers that the call wrote, a line of plain words to each theorem; proofs/Theorems.antt has the proofs.
 -- Assumes nothing.
-use Rattle.std.specs.Prelude.{ℕ, ◌+◌, ◌-◌, ◌*◌, ◌/◌, ◌≤◌, ◌<◌, true, false, ◌⊎◌, ◌↔◌, ◌≡◌, List, length, get_or, take}
+use Rattle.std.specs.Prelude.{ℕ, ◌+◌, ◌-◌, ◌*◌, ◌/◌, ◌≤◌, ◌<◌, true, false, ◌⊎◌, ◌↔◌, ◌≡◌, List, length, get_or, take, Result, Ok, Err}
 use Rattle.std.proofs.Math.Option.{some}
 use Rattle.semiautomata.specs.Predictability.{Critical, member, named, Counts, Lookahead}
 use Rattle.semiautomata.specs.Predictability as predictability
@@ -9,13 +9,12 @@ use Rattle.refusals.specs.Outcomes.{Outcome, refused, answered}
 use Rattle.plan.specs.Asked.{Asked, Passes, Proper}
 use Rattle.table.specs.Table.{sets_from}
 use Rattle.lookahead.specs.declared.Evidence.{Evidence}
-use Rattle.prepare.specs.declared.Prepared.{Prepared}
-use Rattle.prepare.specs.declared.Prepared.TheVariants.{Ready, Unpredictable}
-use Rattle.prepare.specs.Preparing.{outcome_of_prepared, Prepares, CountsTo, Draws}
+use Rattle.prepare.specs.declared.Unprepared.TheVariants.{Unpredictable}
+use Rattle.prepare.specs.Preparing.{Prepared, outcome_of_prepared, Prepares, CountsTo, Draws}
 use Rattle.prepare.specs.Theorems.{EitherCall}
-use Rattle.needs.specs.declared.Needs.{Needs}
-use Rattle.needs.specs.declared.Needs.TheVariants.{Entries}
-use Rattle.needs.specs.Needs.{Of, place_of, entries, TellsNeeds, largest, outcome_of_needs, NeedsOf}
+use Rattle.refusals.specs.Named.{outcome_of}
+use Rattle.refusals.specs.declared.Refusal.{Refusal}
+use Rattle.needs.specs.Needs.{Of, place_of, entries, TellsNeeds, largest, NeedsOf}
 
 -- What preparing, the count call or the drawing program's entry answers, buffers lent to it being long enough.
 abbrev pub LookedAhead : Asked → Outcome ℕ → Type 0
@@ -57,20 +56,20 @@ pub record Theorems (A : Asked) (numbers : List ℕ) : Type 0 where
   pub largest_k : ¬ SomeEndless numbers → (o : Outcome ℕ) → LookedAhead A o → o ≡ answered (largest numbers)
   pub endless_15 : (o : Outcome ℕ) → LookedAhead A o → SomeEndless numbers ↔ (o ≡ refused 15)
   -- preparing and the count call being lent whatever: the same of k, and with 15 the set that the evidence names has 65,535
-  pub ready_largest : (k : ℕ) (old letters : List ℕ) → EitherCall A (Ready k) old letters → ¬ SomeEndless numbers × (k ≡ largest numbers)
-  pub evidence_endless : (e : Evidence) (old letters : List ℕ) → EitherCall A (Unpredictable e) old letters
+  pub ready_largest : (k : ℕ) (old letters : List ℕ) → EitherCall A (Ok k) old letters → ¬ SomeEndless numbers × (k ≡ largest numbers)
+  pub evidence_endless : (e : Evidence) (old letters : List ℕ) → EitherCall A (Err (Unpredictable e)) old letters
       → (T : Critical) × (named A.means e.state e.letter ≡ some T) × Of A.means T
       × (get_or numbers (place_of A.means T) 0 ≡ endless)
 
 pub record Calls (A : Asked) : Type 0 where
   -- where no check applies and enough numbers are lent, the call answers, whether there is a look-ahead or not
-  pub answers : Passes A → (a : Needs) (old needs : List ℕ) → entries A.means ≤ length old → NeedsOf A a old needs
-      → outcome_of_needs a ≡ answered (entries A.means)
+  pub answers : Passes A → (a : Result ℕ Refusal) (old needs : List ℕ) → entries A.means ≤ length old → NeedsOf A a old needs
+      → outcome_of a ≡ answered (entries A.means)
   -- what stands at the front of the lent numbers is what the theorems above speak of
-  pub written : (count : ℕ) (old needs : List ℕ) → NeedsOf A (Entries count) old needs → Theorems A (take count needs)
+  pub written : (count : ℕ) (old needs : List ℕ) → NeedsOf A (Ok count) old needs → Theorems A (take count needs)
   -- two calls answer the same and leave the same
-  pub same : (a b : Needs) (old needs needs' : List ℕ) → NeedsOf A a old needs → NeedsOf A b old needs'
-      → (outcome_of_needs a ≡ outcome_of_needs b) × (needs ≡ needs')
+  pub same : (a b : Result ℕ Refusal) (old needs needs' : List ℕ) → NeedsOf A a old needs → NeedsOf A b old needs'
+      → (outcome_of a ≡ outcome_of b) × (needs ≡ needs')
 
 -- They hold of everything that a call may ask, so of all plan bytes (plan/specs/Theorems, `proper`).
 abbrev pub Met : Type 0

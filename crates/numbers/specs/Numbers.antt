@@ -1,12 +1,12 @@
 -- Outcomes in numbers, as C gets them (include/gawherino.h): one number, a value below 65,536 or 65,536 plus the refusal, and further
 -- values, which go to the front of a lent slice.
 -- Assumes nothing.
-use Rattle.std.specs.Prelude.{ℕ, ◌≤◌, ◌<◌, true, ◌≡◌, List, [], ◌∷◌, ◌++◌, length, drop}
+use Rattle.std.specs.Prelude.{ℕ, ◌≤◌, ◌<◌, true, ◌≡◌, List, [], ◌∷◌, ◌++◌, length, drop, Option, None, Some}
 use Rattle.refusals.specs.Checks.{Check, first_of, short}
 use Rattle.refusals.specs.Groups.{last_refusal}
 use Rattle.refusals.specs.Outcomes.{Outcome, refused, answered, refusing}
 use Rattle.refusals.specs.declared.Group.{Group}
-use Rattle.refusals.specs.declared.Group.TheVariants.{Author, Caller, Logger, Nobody}
+use Rattle.refusals.specs.declared.Group.TheVariants.{Author, Caller, Logger}
 
 pub record Numbers : Type 0 where
   pub first : ℕ
@@ -46,8 +46,8 @@ pub data Number (r : ℕ) : Type 0 where
 
 -- WHO CAN CAUSE A REFUSAL
 
-abbrev pub group_number : Group → ℕ
-group_number Author = 1
-group_number Caller = 2
-group_number Logger = 3
-group_number Nobody = 0
+abbrev pub group_number : Option Group → ℕ
+group_number (Some Author) = 1
+group_number (Some Caller) = 2
+group_number (Some Logger) = 3
+group_number None = 0

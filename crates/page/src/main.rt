@@ -3,64 +3,55 @@
 // its page is there as soon as it is. What could not be read or written is said on standard error, and nothing more is written.
 #![tactic(auto)]
 
-ghost use Rattle.std.specs.Prelude.{◌-◌, ◌≤◌, length};
+ghost use Rattle.std.specs.Prelude.{◌≤◌, IfOk, length};
+ghost use Rattle.plan.specs.Bytes.{asked};
 ghost use Rattle.pages.specs.Page.{max_page};
-ghost use Rattle.page.specs.Printing.{Prints, Within};
+ghost use Rattle.page.specs.Printing.{Prints, Paged};
 
-use pages::Page;
-use std::io::{Read, Write};
+use refusals::Refusal;
+use slices::Filling;
+use std::io::{self, Read, Write};
 
-// So many bytes of an input are read, or they could not be.
-#[derive(Drop)]
-enum Input {
-    Bytes(usize),
-    Unread,
+// The page of an input's plan.
+fn paged(input: &[u8], out: &mut [u8]) -> Result<usize, Refusal>
+    requires { max_page ≤ length out.old }
+    ensures { Paged input.now result out.old out.new }
+{
+    if inputs::no_plan(input) {
+        return Err(Refusal::Size);
+    }
+    pages::of_plan(&input[..inputs::total(input)], 0, out)
 }
 
-// The page of an input's plan, or the line of its refusal: so many bytes of a buffer with room for every page.
+// .. or the line of its refusal: so many bytes of a buffer with room for every page.
 fn page_of(input: &[u8], out: &mut [u8]) -> usize
     requires { max_page ≤ length out.old }
     ensures { Prints input.now out.old result out.new }
 {
-    if inputs::no_plan(input) {
-        return lines::refused(out, 0, 1);
-    }
-    let end = inputs::total(input);
-    let paged = pages::of_plan(&input[..end], 0, out);
-    match paged {
-        Page::Bytes(count) => count,
-        Page::Refused(number) => lines::refused(out, 0, number),
-    }
-}
-
-// Some more bytes of an input, from a place of the buffer on and up to another: how many.
-fn read_on(rt: &HostRuntime, input: &mut [u8], from: usize, upto: usize) -> Input
-    requires { (from ≤ upto) × (upto ≤ length input.old) }
-    ensures { Within (upto - from) result }
-{
-    match rt.stdin().read(&mut input[from..upto]) {
-        Ok(count) => Input::Bytes(count),
-        Err(_) => Input::Unread,
+    match paged(input, out) {
+        Ok(count) => count,
+        Err(refusal) => {
+            let mut line = Filling { out, at: 0 };
+            lines::refused(&mut line, refusal.number());
+            line.at
+        }
     }
 }
 
-// An input is read up to the end of its plan, or up to its own end if that comes first.
-fn read_plan(rt: &HostRuntime, input: &mut [u8]) -> Input
+// An input is read up to the end of its plan, or up to its own end if that comes first: how many bytes.
+fn read_plan(rt: &HostRuntime, input: &mut [u8]) -> io::Result<usize>
     requires { 65535 ≤ length input.old }
-    ensures { Within 65535 result }
+    ensures { IfOk result (λ count. count ≤ 65535) }
 {
     let mut end = 0;
     loop {
         let upto = inputs::wanted(&input[..end]);
         if upto <= end {
-            return Input::Bytes(end);
+            return Ok(end);
         }
-        let got = read_on(rt, input, end, upto);
-        let Input::Bytes(count) = got else {
-            return Input::Unread;
-        };
+        let count = rt.stdin().read(&mut input[end..upto])?;
         if count == 0 {
-            return Input::Bytes(end);
+            return Ok(end);
         }
         end += count;
     }
@@ -68,24 +59,18 @@ fn read_plan(rt: &HostRuntime, input: &mut [u8]) -> Input
 
 // A line on standard error, which says what could not be done; if it cannot be written either, nothing more can be said.
 fn complain(rt: &HostRuntime, line: &[u8]) {
-    match rt.stderr().write_all(line) {
-        Ok(()) => {}
-        Err(_) => {}
-    }
+    let _ = rt.stderr().write_all(line);
 }
 
 fn main(rt: HostRuntime) {
     let mut input = [0u8; 65535];
     let mut out = [0u8; pages::MAX_PAGE];
-    let read = read_plan(&rt, &mut input);
-    match read {
-        Input::Bytes(end) => {
-            let count = page_of(&input[..end], &mut out);
-            match rt.stdout().write_all(&out[..count]) {
-                Ok(()) => {}
-                Err(_) => complain(&rt, b"page: standard output could not be written\n"),
-            }
-        }
-        Input::Unread => complain(&rt, b"page: standard input could not be read\n"),
+    let Ok(end) = read_plan(&rt, &mut input) else {
+        complain(&rt, b"page: standard input could not be read\n");
+        return;
+    };
+    let count = page_of(&input[..end], &mut out);
+    if rt.stdout().write_all(&out[..count]).is_err() {
+        complain(&rt, b"page: standard output could not be written\n");
     }
 }

@@ -2,26 +2,20 @@
 -- Assumes nothing.
 use Prim.Native.Nat.{ℕ, ◌+◌, ◌-◌, ◌^◌, min, ◌≤◌, ◌<◌}
 use mathlib.Core.Bool.{Bool, true, false, cond}
-use mathlib.Core.Path.{◌≡◌, refl, sym, ◌∙◌, ap}
+use mathlib.Core.Path.{◌≡◌, sym, ◌∙◌, ap}
 use mathlib.Core.List.{List, [], ◌∷◌, ◌++◌, append_assoc, append-nil}
 use native.Mathlib.Omega.{arith}
 use lib.Dec.{eqb}
 use borrow.Author.Tests.{eq-eqb, ne_eqb}
-use lib.ListN.{length, take, drop, replicate, length-append, length-replicate, drop_of_length-le}
+use lib.ListN.{length, take, drop, replicate, length-append, length-replicate}
 use lib.Seq.{append_snoc, drop-drop}
-use Rattle.slices.specs.Copying.{at_front}
-use Rattle.slices.specs.Appending.{Room, Appended}
-use Rattle.slices.proofs.Appending.{appended_none, room_left, room_on, appended_on}
 use Rattle.decimals.specs.Decimals.{decimal, blanks, right, left}
 use Rattle.decimals.proofs.Digits.{decimal_length}
 use Rattle.decimals.proofs.Columns.{drop_row, right_long, left_long}
 use Rattle.semiautomata.specs.Sizes.{endless, unmeasured}
-use Rattle.semiautomata.specs.Predictability.{Critical, initial}
-use Rattle.pages.specs.Page.{state_text, letter_text, need_text, longest_bar, bar, label, tail, line, page_line, shown_of}
-
--- all columns of a part made blank
-pub made : (xs old : List ℕ) {columns : List ℕ} → length old ≡ length xs → columns ≡ at_front xs old → columns ≡ xs
-made xs old h e = e ∙ rw (drop_of_length-le old {i = length xs} (omega arith), append-nil)
+use Rattle.slices.specs.Filling.{filled}
+use Rattle.semiautomata.specs.Predictability.{Critical, initial, fork}
+use Rattle.pages.specs.Page.{state_text, need_text, longest_bar, bar, label, tail, line, page_line, line_of, shown_of}
 
 -- THE BAR: signs put over the front of blank columns
 
@@ -78,49 +72,36 @@ pub tail_put : {b g n : List ℕ} (need signs : List ℕ) → b ≡ blanks 31 ++
     ≡ blanks 1 ++ need ++ blanks 1 ++ signs ++ (10 ∷ [])
 tail_put need signs b g n = rw (b, g, n) (simp append_assoc)
 
--- .. have nine and 32 bytes
-pub label_long : (q a : ℕ) → q < 64 → a < 32 → length (label (decimal q) (decimal a)) ≡ 9
-label_long q a h g = simp length-append (omega (
-  arith,
-  right_long 4 (decimal q) (decimal_length 3 q (omega arith)),
-  right_long 4 (decimal a) (decimal_length 3 a (omega arith)),
-))
+-- what is put of a set: nothing, or its line
+pub shown_none : (T : Critical) (v count : ℕ) → v ≡ unmeasured → shown_of T v count ≡ []
+shown_none T v count e = rw (eq-eqb v unmeasured e)
 
-pub tail_long : (v count : ℕ) → length (need_text v) ≤ 6 → length (tail v count) ≡ 32
-tail_long v count h =
-    simp length-append (omega (arith, right_long 6 (need_text v) h, left_long longest_bar (bar count) (bar_short count)))
+pub shown_line : (T : Critical) (v count : ℕ) → ¬ (v ≡ unmeasured) → shown_of T v count ≡ line_of T v count
+shown_line T v count ne = rw (ne_eqb v unmeasured ne)
 
--- a part of a buffer that is filled whole
-pub part_filled : (old : List ℕ) (at w : ℕ) {text ys : List ℕ} → length text ≡ w → Room old at text → ys ≡ text
-    → Appended old at text (at + w) (take at old ++ (ys ++ drop (at + w - at) (drop at old)))
-part_filled old at w {text} l h e =
-    let d : at + w - at ≡ length text = omega arith in
-    record {
-      room = h;
-      end = omega arith;
-      is = rw (e, d, drop-drop (length text) at old) (sym (append_assoc (take at old) text (drop (at + length text) old)));
-    }
+-- the line of the initial states, and that of a fork set, by their halves
+pub starts_made : (v count : ℕ) {made columns : List ℕ} → made ≡ 102 ∷ 114 ∷ 111 ∷ 109 ∷ (blanks 36 ++ (10 ∷ [])) → columns ≡ tail v count
+    → take 9 made ++ (columns ++ drop (length made - 9) (drop 9 made)) ≡ line_of initial v count
+unfolding line right
+starts_made v count m e = rw (m, e) (simp append-nil)
 
--- what is put of a set: nothing, or the two halves of its line
-module _ (T : Critical) (v count : ℕ) {old : List ℕ} {at : ℕ} where
-  pub put_nothing : v ≡ unmeasured → Room old at (shown_of T v count) → Appended old at (shown_of T v count) at old
-  put_nothing e h = rw (eq-eqb v unmeasured e) (appended_none at (omega (arith, h.fits)))
+pub fork_made : (q a v count : ℕ) {made columns front : List ℕ} → made ≡ blanks 40 ++ (10 ∷ []) → columns ≡ tail v count
+    → front ≡ label (decimal q) (decimal a)
+    → front ++ drop 9 (take 9 made ++ (columns ++ drop (length made - 9) (drop 9 made))) ≡ line_of (fork q a) v count
+unfolding line
+fork_made q a v count m e f = rw (m, e, f) (simp append-nil)
 
-  module _ (ne : ¬ (v ≡ unmeasured)) where
-    pub label_room : Room old at (shown_of T v count) → Room old at (label (state_text T) (letter_text T))
-    unfolding line
-    label_room h = room_left (label (state_text T) (letter_text T)) (tail v count) (rw (ne_eqb v unmeasured ne) at h)
+pub starts_long : (v count : ℕ) → v < 10 ^ 6 → length (line_of initial v count) ≡ page_line
+starts_long v count h = line_long (state_text initial) [] v count (omega arith) (omega arith) (need_short v h)
 
-    module _ {r : ℕ} {mid : List ℕ} (p : Appended old at (label (state_text T) (letter_text T)) r mid) where
-      pub tail_room : Room old at (shown_of T v count) → Room mid r (tail v count)
-      unfolding line
-      tail_room h = room_on p (rw (ne_eqb v unmeasured ne) at h)
+pub fork_long : (q a v count : ℕ) → q < 64 → a < 32 → v < 10 ^ 6 → length (line_of (fork q a) v count) ≡ page_line
+fork_long q a v count g k h =
+    line_long (decimal q) (decimal a) v count (decimal_length 3 q (omega arith)) (decimal_length 3 a (omega arith)) (need_short v h)
 
-      pub put_line : {q : ℕ} {out : List ℕ} → Appended mid r (tail v count) q out → Appended old at (shown_of T v count) q out
-      unfolding line
-      put_line p' = rw (ne_eqb v unmeasured ne) (appended_on p p')
-
--- the first nine columns of the initial states
-pub starts_label : label (state_text initial) (letter_text initial) ≡ 102 ∷ 114 ∷ 111 ∷ 109 ∷ 32 ∷ 32 ∷ 32 ∷ 32 ∷ 32 ∷ []
-unfolding right
-starts_label = refl
+-- a line that is filled where it stands
+pub filled_line : (old : List ℕ) (at : ℕ) {text columns : List ℕ} → length text ≡ page_line → columns ≡ text
+    → take at old ++ (columns ++ drop (at + page_line - at) (drop at old)) ≡ filled old at text
+unfolding filled
+filled_line old at {text} l e =
+    let d : at + page_line - at ≡ length text = omega arith in
+    rw (e, d, drop-drop (length text) at old) (sym (append_assoc (take at old) text (drop (at + length text) old)))

@@ -9,7 +9,7 @@ use native.Mathlib.Numerals.{add-one}
 use native.Mathlib.Omega.{arith}
 use lib.Dec.{eqb}
 use lib.ListN.{length, get_or, take, drop}
-use borrow.Author.Tests.{eq-eqb, ne_eqb, eqb-false}
+use borrow.Author.Tests.{ne_eqb, eqb-false}
 use Rattle.bitset.specs.Sets.{size}
 use Rattle.slices.specs.Appending.{each}
 use Rattle.slices.proofs.Each.{each_cong, each_add, each_rows}
@@ -18,7 +18,7 @@ use Rattle.semiautomata.specs.Semiautomaton.{Semiautomaton, Within}
 use Rattle.semiautomata.specs.Predictability.{Critical, initial, fork}
 use Rattle.semiautomata.specs.Sizes.{max_states, max_letters, endless, unmeasured}
 use Rattle.semiautomata.specs.Successors.{place}
-use Rattle.semiautomata.proofs.Successors.{state_lt, letter_lt, place_of_lem, place_lt}
+use Rattle.semiautomata.proofs.BySets.{state_lt, letter_lt, place_of_lem, place_lt}
 use Rattle.semiautomata.proofs.Places.{place_same}
 use Rattle.needs.specs.Needs.{Of, place_of, entries, TellsNeeds}
 use Rattle.needs.proofs.Largest.{place_of_lt}
@@ -30,10 +30,6 @@ use Rattle.pages.proofs.Rows.{row_at, all_long}
 pub lines_next_with : (numbers : List ℕ) (i : ℕ) → ¬ (get_or numbers i 0 ≡ unmeasured) → lines_before numbers (i + 1) ≡ lines_before numbers i + 1
 unfolding size
 lines_next_with numbers i ne = rw (add-one, ne_eqb (get_or numbers i 0) unmeasured ne)
-
-pub lines_next_without : (numbers : List ℕ) (i : ℕ) → get_or numbers i 0 ≡ unmeasured → lines_before numbers (i + 1) ≡ lines_before numbers i
-unfolding size
-lines_next_without numbers i e = rw (add-one, eq-eqb (get_or numbers i 0) unmeasured e) (omega arith)
 
 -- THE SET AT A PLACE
 

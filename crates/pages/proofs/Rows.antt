@@ -7,8 +7,10 @@ use mathlib.Core.Logic.{inl, inr}
 use mathlib.Core.List.{List, [], ◌++◌, append_assoc, append-nil}
 use native.Mathlib.Decide.{ℕ_discrete}
 use native.Mathlib.Omega.{arith}
-use lib.ListN.{length, take, drop, length-append}
-use lib.Seq.{take_at, drop_at}
+use lib.ListN.{length, get_or, take, drop, length-append}
+use lib.Seq.{take_at, drop_at, take-length}
+use Rattle.std.specs.List.{count_by}
+use Rattle.std.proofs.lemmas.List.Sums.{count_by_more_no, count_by_more_yes}
 use Rattle.bitset.specs.Sets.{size}
 use Rattle.bitset.proofs.Tests.{decided}
 use Rattle.slices.specs.Appending.{each}
@@ -24,6 +26,21 @@ size_with n p e = rw e
 size_without : (n : ℕ) (p : ℕ → Bool) → p n ≡ false → size (suc n) p ≡ size n p
 unfolding size
 size_without n p e = rw e (omega arith)
+
+-- .. in a list
+size_take : (p : ℕ → Bool) (xs : List ℕ) (i : ℕ) → i ≤ length xs → count_by p (take i xs) ≡ size i (λ j. p (get_or xs j 0))
+unfolding size
+size_take p xs zero h = refl
+size_take p xs (suc i) h =
+    let before = size_take p xs i (omega arith) in
+    let next : suc i ≡ i + 1 = omega arith in
+    elim (decided (p (get_or xs i 0))) [
+      | inl e ↦ rw (next, e) (count_by_more_yes p xs i 0 (omega arith) e ∙ rw before)
+      | inr e ↦ rw (next, e) (count_by_more_no p xs i 0 (omega arith) e ∙ rw before (omega arith))
+    ]
+
+pub size_list : (p : ℕ → Bool) (xs : List ℕ) → count_by p xs ≡ size (length xs) (λ j. p (get_or xs j 0))
+size_list p xs = rw take-length at (size_take p xs (length xs) (omega arith))
 
 -- of those in p, one has just k before it
 pub size_reach : (n : ℕ) (p : ℕ → Bool) (k : ℕ) → k < size n p → (i : ℕ) × (i < n) × (p i ≡ true) × (size i p ≡ k)

@@ -1,7 +1,7 @@
 -- The theorems of specs/Theorems.antt.
 -- Assumes nothing.
 use Prim.Native.Nat.{ℕ, ◌+◌, ◌-◌, ◌*◌, ◌≤◌, ◌<◌}
-use mathlib.Core.Bool.{Bool, true, false, not, false≢true}
+use mathlib.Core.Bool.{Bool, false, not, false≢true}
 use mathlib.Core.Path.{◌≡◌, refl, sym, ◌∙◌, ap}
 use mathlib.Core.List.{List, [], ◌∷◌, ◌++◌, append_assoc, append-nil}
 use native.Mathlib.Nat.{mul-le-mul}
@@ -11,24 +11,23 @@ use lib.Dec.{eqb}
 use lib.ListN.{length, get_or, take, drop, length-append}
 use lib.Seq.{take-append_seam, take_at, drop_at}
 use borrow.Author.Tests.{eq-eqb, eqb-false, not-true, le-ltb}
-use Rattle.bitset.specs.Sets.{size}
 use Rattle.bitset.proofs.Below.{size_none}
+use Rattle.std.specs.Prelude.{Result, Ok, Err}
+use Rattle.refusals.specs.declared.Refusal.{Refusal}
 use Rattle.refusals.specs.Outcomes.{answered, refused}
+use Rattle.refusals.specs.Named.{outcome_of}
 use Rattle.decimals.specs.Decimals.{blanks, right, left}
 use Rattle.decimals.proofs.Columns.{right_long, left_long}
 use Rattle.semiautomata.specs.Semiautomaton.{Semiautomaton}
 use Rattle.semiautomata.specs.Sizes.{Sized, endless, unmeasured}
-use Rattle.semiautomata.specs.Predictability.{Critical, initial, fork, member}
+use Rattle.semiautomata.specs.Predictability.{Critical, initial, fork}
 use Rattle.plan.specs.Asked.{Asked, refusal_of, Passes, Proper}
 use Rattle.plan.proofs.Asked.{clear_passes, refused_passing, unread}
-use Rattle.needs.specs.declared.Needs.TheVariants.{Entries}
 use Rattle.needs.specs.Needs.{Measured, Of, place_of, entries, TellsNeeds, NeedsOf}
 use Rattle.needs.proofs.Largest.{each_place}
 use Rattle.needs.proofs.Theorems.{tells_unique, met as needs-met}
-use Rattle.pages.specs.declared.Page.{Page}
-use Rattle.pages.specs.declared.Page.TheVariants.{Bytes, Refused}
 use Rattle.pages.specs.Page.{state_text, letter_text, need_text, longest_bar, bar, line, line_of, states_of, page, lines_before, line_count, max_page}
-use Rattle.pages.specs.Paging.{outcome_of_page, page_refusal, PageOf}
+use Rattle.pages.specs.Paging.{page_refusal, PageOf}
 use Rattle.pages.specs.Theorems.{line_at, cut, InColumns, Theorems, Met}
 use Rattle.pages.proofs.Columns.{bar_short}
 use Rattle.pages.proofs.Rows.{size_reach, size_mono, size_most}
@@ -155,7 +154,7 @@ module _ {S : Semiautomaton} (Z : Sized S) {numbers : List ℕ} (t : TellsNeeds 
 
 module _ (A : Asked) (P : Proper A) where
   -- where no check applies the numbers are those that tell the needs
-  module _ {a : Page} {old out : List ℕ} (p : PageOf A a old out) (w : Passes A) where
+  module _ {a : Result ℕ Refusal} {old out : List ℕ} (p : PageOf A a old out) (w : Passes A) where
     pub same_numbers : (numbers : List ℕ) → TellsNeeds A.means numbers → p.numbers ≡ numbers
     same_numbers numbers t = tells_unique p.numbers numbers (p.tells w) t
 
@@ -171,7 +170,7 @@ module _ (A : Asked) (P : Proper A) where
     no_starts = no_starts Z t;
   }
 
-  module _ (count : ℕ) (old out : List ℕ) (p : PageOf A (Bytes count) old out) where
+  module _ (count : ℕ) (old out : List ℕ) (p : PageOf A (Ok count) old out) where
     pub passes : Passes A
     passes = clear_passes A P _ p.gives.0
 
@@ -181,22 +180,22 @@ module _ (A : Asked) (P : Proper A) where
     theorems : Theorems A p.numbers (take count out)
     theorems = rw at_front_lem (theorems_of passes p.numbers (p.tells passes))
 
-    of_needs : (entries : ℕ) (old' needs : List ℕ) → NeedsOf A (Entries entries) old' needs
+    of_needs : (entries : ℕ) (old' needs : List ℕ) → NeedsOf A (Ok entries) old' needs
         → take count out ≡ page A.means (take entries needs)
     of_needs entries old' needs n =
         rw (at_front_lem, same_numbers p passes (take entries needs) ((needs-met A P).written entries old' needs n).tells)
 
-  answers : Passes A → (numbers : List ℕ) → TellsNeeds A.means numbers → (a : Page) (old out : List ℕ)
+  answers : Passes A → (numbers : List ℕ) → TellsNeeds A.means numbers → (a : Result ℕ Refusal) (old out : List ℕ)
       → length (page A.means numbers) ≤ length old → PageOf A a old out
-      → outcome_of_page a ≡ answered (length (page A.means numbers))
-  answers w numbers t (Bytes c) old out room p = rw (p.gives.1.0, same_numbers p w numbers t)
-  answers w numbers t (Refused r) old out room p =
+      → outcome_of a ≡ answered (length (page A.means numbers))
+  answers w numbers t (Ok c) old out room p = rw (p.gives.1.0, same_numbers p w numbers t)
+  answers w numbers t (Err r) old out room p =
       let (e, n, _) = p.gives in
       let fits : length (page A.means p.numbers) ≤ length old = rw (same_numbers p w numbers t) room in
       absurd (n (e ∙ refused_passing A P w _ ∙ rw (le-ltb (length old) (length (page A.means p.numbers)) fits)))
 
-  enough : Passes A → (a : Page) (old out : List ℕ) → max_page ≤ length old → PageOf A a old out
-      → (numbers : List ℕ) × Theorems A numbers (page A.means numbers) × (outcome_of_page a ≡ answered (length (page A.means numbers)))
+  enough : Passes A → (a : Result ℕ Refusal) (old out : List ℕ) → max_page ≤ length old → PageOf A a old out
+      → (numbers : List ℕ) × Theorems A numbers (page A.means numbers) × (outcome_of a ≡ answered (length (page A.means numbers)))
   enough w a old out room p =
       let t = p.tells w in
       let fits = most (P.sized w) t in (
@@ -206,23 +205,23 @@ module _ (A : Asked) (P : Proper A) where
       )
 
   -- two calls with as many bytes lent have the same refusal
-  same_refusal : {a b : Page} {old out out' : List ℕ} (p : PageOf A a old out) (q : PageOf A b old out')
+  same_refusal : {a b : Result ℕ Refusal} {old out out' : List ℕ} (p : PageOf A a old out) (q : PageOf A b old out')
       → page_refusal A (page A.means p.numbers) (length old) ≡ page_refusal A (page A.means q.numbers) (length old)
   same_refusal p q = elim (ℕ_discrete (refusal_of A) 0) [
     | yes w ↦ rw (same_numbers p w q.numbers (q.tells w))
     | no n ↦ sym (unread A P refl n _) ∙ unread A P refl n _
   ]
 
-  same : (a b : Page) (old out out' : List ℕ) → PageOf A a old out → PageOf A b old out'
-      → (outcome_of_page a ≡ outcome_of_page b) × (out ≡ out')
-  same (Bytes c) (Bytes d) old out out' p q =
+  same : (a b : Result ℕ Refusal) (old out out' : List ℕ) → PageOf A a old out → PageOf A b old out'
+      → (outcome_of a ≡ outcome_of b) × (out ≡ out')
+  same (Ok c) (Ok d) old out out' p q =
       let text = same_numbers p (passes c old out p) q.numbers (q.tells (passes c old out p)) in
       let (_, (e, is)) = p.gives in
       let (_, (e', is')) = q.gives in
       (ap answered (e ∙ rw text (sym e')), is ∙ rw text (sym is'))
-  same (Bytes c) (Refused r) old out out' p q = let (e, n, _) = q.gives in absurd (n (e ∙ sym (same_refusal p q) ∙ p.gives.0))
-  same (Refused r) (Bytes c) old out out' p q = let (e, n, _) = p.gives in absurd (n (e ∙ same_refusal p q ∙ q.gives.0))
-  same (Refused r) (Refused s) old out out' p q =
+  same (Ok c) (Err r) old out out' p q = let (e, n, _) = q.gives in absurd (n (e ∙ sym (same_refusal p q) ∙ p.gives.0))
+  same (Err r) (Ok c) old out out' p q = let (e, n, _) = p.gives in absurd (n (e ∙ same_refusal p q ∙ q.gives.0))
+  same (Err r) (Err s) old out out' p q =
       let (e, _, is) = p.gives in
       let (e', _, is') = q.gives in
       (ap refused (e ∙ same_refusal p q ∙ sym e'), is ∙ sym is')

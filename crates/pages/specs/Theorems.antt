@@ -1,17 +1,16 @@
 -- What follows of the page that the call wrote, a line of plain words to each theorem; proofs/Theorems.antt has the proofs.
 -- Assumes nothing.
-use Rattle.std.specs.Prelude.{ℕ, ◌+◌, ◌-◌, ◌*◌, ◌≤◌, ◌<◌, false, ◌≡◌, List, [], ◌∷◌, length, get_or, take, drop}
+use Rattle.std.specs.Prelude.{ℕ, ◌+◌, ◌-◌, ◌*◌, ◌≤◌, ◌<◌, false, ◌≡◌, List, [], ◌∷◌, length, get_or, take, drop, Result, Ok}
+use Rattle.refusals.specs.declared.Refusal.{Refusal}
 use Rattle.refusals.specs.Outcomes.{answered}
+use Rattle.refusals.specs.Named.{outcome_of}
 use Rattle.decimals.specs.Decimals.{blanks, right, left}
 use Rattle.semiautomata.specs.Semiautomaton.{Semiautomaton}
 use Rattle.semiautomata.specs.Predictability.{Critical}
 use Rattle.plan.specs.Asked.{Asked, Passes, Proper}
-use Rattle.needs.specs.declared.Needs.TheVariants.{Entries}
 use Rattle.needs.specs.Needs.{Measured, Of, place_of, TellsNeeds, NeedsOf}
-use Rattle.pages.specs.declared.Page.{Page}
-use Rattle.pages.specs.declared.Page.TheVariants.{Bytes}
 use Rattle.pages.specs.Page.{state_text, letter_text, need_text, longest_bar, bar, page_line, page, lines_before, line_count, states_of, max_page}
-use Rattle.pages.specs.Paging.{outcome_of_page, PageOf}
+use Rattle.pages.specs.Paging.{PageOf}
 
 -- A line of a page, counted from 0; and columns of a line, counted from 1.
 abbrev pub line_at : List ℕ → ℕ → List ℕ
@@ -52,20 +51,20 @@ pub record Theorems (A : Asked) (numbers text : List ℕ) : Type 0 where
 
 pub record Calls (A : Asked) : Type 0 where
   -- where no check applies and enough bytes are lent, the call answers, whether there is a look-ahead or not
-  pub answers : Passes A → (numbers : List ℕ) → TellsNeeds A.means numbers → (a : Page) (old out : List ℕ)
+  pub answers : Passes A → (numbers : List ℕ) → TellsNeeds A.means numbers → (a : Result ℕ Refusal) (old out : List ℕ)
       → length (page A.means numbers) ≤ length old → PageOf A a old out
-      → outcome_of_page a ≡ answered (length (page A.means numbers))
+      → outcome_of a ≡ answered (length (page A.means numbers))
   -- so that 84,009 bytes are always enough
-  pub enough : Passes A → (a : Page) (old out : List ℕ) → max_page ≤ length old → PageOf A a old out
-      → (numbers : List ℕ) × Theorems A numbers (page A.means numbers) × (outcome_of_page a ≡ answered (length (page A.means numbers)))
+  pub enough : Passes A → (a : Result ℕ Refusal) (old out : List ℕ) → max_page ≤ length old → PageOf A a old out
+      → (numbers : List ℕ) × Theorems A numbers (page A.means numbers) × (outcome_of a ≡ answered (length (page A.means numbers)))
   -- what stands at the front of the lent bytes is what the theorems above speak of
-  pub written : (count : ℕ) (old out : List ℕ) → PageOf A (Bytes count) old out → (numbers : List ℕ) × Theorems A numbers (take count out)
+  pub written : (count : ℕ) (old out : List ℕ) → PageOf A (Ok count) old out → (numbers : List ℕ) × Theorems A numbers (take count out)
   -- it is the page of the numbers that the call for the needs writes
-  pub of_needs : (count entries : ℕ) (old out old' needs : List ℕ) → PageOf A (Bytes count) old out → NeedsOf A (Entries entries) old' needs
+  pub of_needs : (count entries : ℕ) (old out old' needs : List ℕ) → PageOf A (Ok count) old out → NeedsOf A (Ok entries) old' needs
       → take count out ≡ page A.means (take entries needs)
   -- two calls answer the same and leave the same
-  pub same : (a b : Page) (old out out' : List ℕ) → PageOf A a old out → PageOf A b old out'
-      → (outcome_of_page a ≡ outcome_of_page b) × (out ≡ out')
+  pub same : (a b : Result ℕ Refusal) (old out out' : List ℕ) → PageOf A a old out → PageOf A b old out'
+      → (outcome_of a ≡ outcome_of b) × (out ≡ out')
 
 -- They hold of everything that a call may ask, so of all plan bytes (plan/specs/Theorems, `proper`).
 abbrev pub Met : Type 0

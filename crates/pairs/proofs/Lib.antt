@@ -4,4 +4,3 @@ pub mod Striking
 pub mod Rounds
 pub mod Notes
 pub mod Timing
-pub mod Starts

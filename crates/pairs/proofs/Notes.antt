@@ -1,32 +1,26 @@
 -- Numbers of pairs written down, state by state of a row and row by row.
 -- Assumes nothing.
-use mathlib.Core.Bool.{Bool, true, false, cond, ◌&&◌, ◌||◌, or-false, and-not_self, and-false, and-or_distrib_left}
+use mathlib.Core.Bool.{Bool, true, false, cond, ◌&&◌, ◌||◌, and-or_distrib_left}
 use mathlib.Core.Path.{◌≡◌, refl, ◌∙◌}
 use mathlib.Core.List.{List}
-use Prim.Native.Nat.{ℕ, ◌+◌, ◌-◌, ◌<◌}
-use native.Mathlib.Decide.{ℕ_discrete, dec_lt}
-use native.Mathlib.Omega.{arith}
-use lib.Bits.{bit_and}
-use lib.Count.{count_trailing_zeros}
-use lib.Dec.{eqb, ltb}
+use Prim.Native.Nat.{ℕ, ◌<◌}
+use native.Mathlib.Decide.{ℕ_discrete}
+use lib.Dec.{eqb}
 use lib.ListN.{length, set, length-set}
 use lib.Seq.{get_or-set_same, get_or-set_other}
-use borrow.Author.Tests.{eq-eqb, ne_eqb, eqb-true, lt-ltb, le-ltb}
+use borrow.Author.Tests.{eq-eqb, eqb-true}
 use Rattle.bitset.specs.Numbers.{has}
+use Rattle.bitset.specs.Members.{Taken}
 use Rattle.bitset.proofs.Tests.{and_out, not_so}
-use Rattle.bitset.proofs.Taking.{Left, taken, taken_with, taken_all}
+use Rattle.bitset.proofs.Taking.{Left, taken, next_below, taken_with, taken_all}
 use Rattle.semiautomata.specs.Successors.{place}
 use Rattle.semiautomata.proofs.Places.{place_same}
-use Rattle.rows.specs.Rows.{pair}
 use Rattle.pairs.specs.Lifetimes.{lifetime}
 use Rattle.pairs.specs.inner.Noting.{Noted}
 
 -- NUMBERS WRITTEN DOWN
 
 module _ {letters : ℕ} where
-  noted_none : {P : ℕ → ℕ → Bool} {old : List ℕ} → ((s t : ℕ) → P s t ≡ false) → Noted P letters old old
-  noted_none f = record { long = refl; is = λ s t h. rw (f s t) }
-
   -- first the pairs of P, then those of Q
   noted_then : {P Q R : ℕ → ℕ → Bool} {old mid new : List ℕ} → ((s t : ℕ) → R s t ≡ (P s t || Q s t))
       → Noted P letters old mid → Noted Q letters mid new → Noted R letters old new
@@ -58,34 +52,12 @@ module _ {letters : ℕ} where
 
   -- A ROW: the states of a set are taken one by one
   module _ (s states : ℕ) where
-    pub row_first : {old : List ℕ} → Noted (λ x t. eqb s x && taken states states t) letters old old
-    row_first = noted_none λ x t. rw (and-not_self (has states t), and-false)
-
     module _ {rest : ℕ} (l : Left 64 states rest) {old new : List ℕ}
         (k : Noted (λ x t. eqb s x && taken states rest t) letters old new) where
-      pub row_next : 0 < rest → count_trailing_zeros 64 rest < 64 → place 64 s (count_trailing_zeros 64 rest) < length new
-          → Noted (λ x t. eqb s x && taken states (bit_and rest (rest - 1)) t) letters old
-          (set new (place 64 s (count_trailing_zeros 64 rest)) letters)
-      row_next p h room =
-          noted_then (λ x t. rw (taken_with l p t, and-or_distrib_left)) k (noted_one s (count_trailing_zeros 64 rest) h room)
+      pub row_next : {t left : ℕ} (w : Taken rest t left) → place 64 s t < length new
+          → Noted (λ x t. eqb s x && taken states left t) letters old (set new (place 64 s t) letters)
+      row_next {t} w room =
+          noted_then (λ x u. rw (taken_with l w u, and-or_distrib_left)) k (noted_one s t (next_below l w) room)
 
       pub row_all : rest ≡ 0 → Noted (λ x t. eqb s x && has states t) letters old new
       row_all e = record { long = k.long; is = λ x t h. k.is x t h ∙ rw (taken_all l e t) }
-
-  -- ROW BY ROW
-  module _ (struck : List ℕ) where
-    pub rows_first : {old : List ℕ} → Noted (λ x t. ltb x 0 && pair struck x t) letters old old
-    rows_first = noted_none λ x t. rw (le-ltb x 0 (omega arith))
-
-    pub rows_next : (s : ℕ) {old mid new : List ℕ} → Noted (λ x t. ltb x s && pair struck x t) letters old mid
-        → Noted (λ x t. eqb s x && pair struck s t) letters mid new → Noted (λ x t. ltb x (s + 1) && pair struck x t) letters old new
-    rows_next s = noted_then one_more
-      where
-        one_more : (x t : ℕ) → (ltb x (s + 1) && pair struck x t) ≡ (ltb x s && pair struck x t || eqb s x && pair struck s t)
-        one_more x t = elim (ℕ_discrete s x) [
-          | yes e ↦ rw (← e, lt-ltb s (s + 1) (omega arith), le-ltb s s (omega arith), eq-eqb s s refl)
-          | no e ↦ elim (dec_lt x s) [
-            | yes h ↦ rw (lt-ltb x (s + 1) (omega arith), lt-ltb x s h, ne_eqb s x e, or-false)
-            | no h ↦ rw (le-ltb x (s + 1) (omega arith), le-ltb x s (omega arith), ne_eqb s x e)
-          ]
-        ]

@@ -20,12 +20,14 @@ use Rattle.bitset.proofs.Below.{any_in}
 use Rattle.bitset.proofs.Bits.{has_or, has_and, has_empty, has_shl, has_set_of, has_lt, fits}
 use Rattle.semiautomata.specs.Semiautomaton.{Semiautomaton}
 use Rattle.semiautomata.specs.Walks.{step}
-use Rattle.semiautomata.specs.Successors.{successors, Fit, set_at}
-use Rattle.semiautomata.proofs.Successors.{edge_is}
+use Rattle.semiautomata.specs.Successors.{set_at}
+use Rattle.semiautomata.specs.Means.{means}
+use Rattle.semiautomata.specs.declared.successors.Successors.{Successors}
+use Rattle.semiautomata.proofs.BySets.{edge_is}
 use Rattle.rows.specs.Rows.{pair, Put}
 use Rattle.semiautomata.proofs.Places.{place_fits, zeros_at}
 use Rattle.pairs.specs.Sharing.{leads}
-use Rattle.pairs.specs.inner.Rounds.{Fits, falls, Struck, Paired, Waking}
+use Rattle.pairs.specs.inner.Rounds.{Fits, falls, Struck, Woken, Waking}
 
 -- WHAT A ROUND STRIKES
 
@@ -104,33 +106,34 @@ module _ (S : Semiautomaton) (live look : List ℕ) where
 -- WHAT IT WAKES
 
 -- what a row s wakes
-abbrev Wakes : (m : ℕ) (back struck look : List ℕ) (t a x y s : ℕ) → Type 0
-Wakes m back struck look t a x y s =
-    pair struck s t ≡ true → a < m → has (set_at m back s a) x ≡ true → has (set_at m back t a) y ≡ true → pair look x y ≡ true
+abbrev Wakes : (back : Successors) (struck look : List ℕ) (t a x y s : ℕ) → Type 0
+Wakes back struck look t a x y s =
+    pair struck s t ≡ true → a < back.m → has (set_at back.m back.sets.now s a) x ≡ true
+    → has (set_at back.m back.sets.now t a) y ≡ true → pair look x y ≡ true
 
-module _ {m : ℕ} {back struck : List ℕ} where
-  pub waking_first : {look : List ℕ} → Waking m back struck look 0
+module _ {back : Successors} {struck : List ℕ} where
+  pub waking_first : {look : List ℕ} → Waking back struck look 0
   waking_first = record { wakes = λ s t a x y h. absurd (omega arith) }
 
   -- a row of which nothing is struck
-  pub waking_none : {look : List ℕ} {s : ℕ} → get_or struck s 0 ≡ 0 → Waking m back struck look s → Waking m back struck look (s + 1)
+  pub waking_none : {look : List ℕ} {s : ℕ} → get_or struck s 0 ≡ 0 → Waking back struck look s → Waking back struck look (s + 1)
   waking_none {look} {s} e k = record {
-    wakes = λ z t a x y. below_more (Wakes m back struck look t a x y) s
+    wakes = λ z t a x y. below_more (Wakes back struck look t a x y) s
         (λ z h. k.wakes z t a x y h)
         (λ f. absurd (false≢true (sym (rw e (has_empty t)) ∙ f))) z;
   }
 
-  pub waking_next : {n : ℕ} {look new : List ℕ} {s : ℕ} → Fit n m back → Fits n struck → s < n
-      → Paired look new (set_at m back s) (λ a. set_of n (step (successors n m 0 back) (has (get_or struck s 0)) a)) m
-      → Waking m back struck look s → Waking m back struck new (s + 1)
+  pub waking_next : {look new : List ℕ} {s : ℕ} → Fits back.n struck → s < back.n → Woken back s (get_or struck s 0) look new
+      → Waking back struck look s → Waking back struck new (s + 1)
   unfolding step
-  waking_next {n} {look} {new} {s} fit below h p k = record {
-    wakes = λ z t a x y. below_more (Wakes m back struck new t a x y) s
+  waking_next {look} {new} {s} below h p k = record {
+    wakes = λ z t a x y. below_more (Wakes back struck new t a x y) s
         (λ z g f b d e. p.is x y ∙ or_left _ _ (k.wakes z t a x y g f b d e))
         (λ f b d e.
-        let ht = has_lt n (get_or struck s 0) t (below s h) f in
-        let hy = has_lt n (set_at m back t a) y (place_fits fit t a ht b) e in
-        let joined : has (set_of n (step (successors n m 0 back) (has (get_or struck s 0)) a)) y ≡ true =
-        rw (has_set_of, lt-ltb y n hy) (any_in n _ t ht (and_in _ _ f (edge_is n m 0 back t a y ht b ∙ e))) in
-        p.is x y ∙ or_right (pair look x y) _ (any_in m _ a b (and_in _ _ d joined))) z;
+        let ht = has_lt back.n (get_or struck s 0) t (below s h) f in
+        let hy = has_lt back.n (set_at back.m back.sets.now t a) y (place_fits back.fit t a ht b) e in
+        let joined : has (set_of back.n (step (means back) (has (get_or struck s 0)) a)) y ≡ true =
+        rw (has_set_of, lt-ltb y back.n hy)
+        (any_in back.n _ t ht (and_in _ _ f (edge_is back.n back.m back.starts back.sets.now t a y ht b ∙ e))) in
+        p.is x y ∙ or_right (pair look x y) _ (any_in back.m _ a b (and_in _ _ d joined))) z;
   }

@@ -7,6 +7,7 @@ use mathlib.Core.Path.{◌≡◌, refl, sym, ◌∙◌}
 use mathlib.Core.List.{List}
 use Prim.Native.Nat.{ℕ, suc, ◌≤◌, ◌<◌}
 use native.Mathlib.Nat.{lt_of_lt_of_le}
+use native.Mathlib.Decide.{ℕ_discrete}
 use native.Mathlib.Omega.{arith}
 use lib.Dec.{ltb}
 use lib.ListN.{length, replicate, length-replicate, get_or-replicate}
@@ -16,12 +17,12 @@ use Rattle.semiautomata.specs.Semiautomaton.{Semiautomaton}
 use Rattle.semiautomata.specs.Predictability.{Share}
 use Rattle.semiautomata.specs.Sizes.{max_states, endless}
 use Rattle.semiautomata.proofs.Shares.{share_zero, share_shorter}
-use Rattle.semiautomata.proofs.Successors.{place_lt}
+use Rattle.semiautomata.proofs.BySets.{place_lt}
 use Rattle.rows.specs.Rows.{pair, Apart}
 use Rattle.pairs.specs.Sharing.{Level, Lasting}
 use Rattle.pairs.specs.Lifetimes.{Lifetime, max_pairs, lifetime, Timed}
 use Rattle.pairs.specs.inner.Rounds.{Ends}
-use Rattle.pairs.specs.inner.Noting.{Noted}
+use Rattle.pairs.specs.inner.Noting.{Noted, NotedWhere}
 
 -- the pairs of the rows are said to live for ever, the others have their lifetimes
 pub record Marked (S : Semiautomaton) (rows numbers : List ℕ) : Type 0 where
@@ -75,21 +76,20 @@ module _ {S : Semiautomaton} (few : S.n ≤ max_states) {rows old : List ℕ} wh
   noting_first L = record { long = refl; marked = λ e. marked_first few L e; kept = λ _. refl }
 
   module _ {numbers : List ℕ} (k : Noting S rows old numbers) where
-    pub noting_with : {next struck new : List ℕ} {gone j : ℕ} → length numbers ≡ max_pairs → Level S j rows → Level S (suc j) next
-        → Ends S j struck gone → suc j < endless → Noted (λ s t. ltb s S.n && pair struck s t) (suc j) numbers new
-        → Noting S next old new
-    noting_with e L N E h n = record {
-      long = n.long ∙ k.long;
-      marked = λ all. marked_next few L N E h n (k.marked all);
-      kept = λ ne. absurd (ne (sym k.long ∙ e));
-    }
-
-    pub noting_without : {next : List ℕ} → ¬ (length numbers ≡ max_pairs) → Noting S next old numbers
-    noting_without ne = record {
-      long = k.long;
-      marked = λ all. absurd (ne (k.long ∙ rw all (length-replicate {A = ℕ} max_pairs endless)));
-      kept = k.kept;
-    }
+    pub noting_next : {next struck new : List ℕ} {gone j : ℕ} → Level S j rows → Level S (suc j) next → Ends S j struck gone
+        → suc j < endless → NotedWhere (λ s t. ltb s S.n && pair struck s t) (suc j) numbers new → Noting S next old new
+    noting_next {next} {struck} {new} {gone} {j} L N E h (written, kept) = elim (ℕ_discrete (length numbers) max_pairs) [
+      | yes e ↦ record {
+        long = (written e).long ∙ k.long;
+        marked = λ all. marked_next few L N E h (written e) (k.marked all);
+        kept = λ ne. absurd (ne (sym k.long ∙ e));
+      }
+      | no ne ↦ record {
+        long = rw (kept ne) k.long;
+        marked = λ all. absurd (ne (k.long ∙ rw all (length-replicate {A = ℕ} max_pairs endless)));
+        kept = λ few. rw (kept ne) (k.kept few);
+      }
+    ]
 
     -- no rivals are among the live pairs, or these live for ever
     pub noting_parted : {rival : List ℕ} → Apart rows rival S.n → Timed S rival old numbers

@@ -3,7 +3,9 @@ ghost use Rattle.std.specs.Prelude.{◌&&◌, ◌≡◌, ◌≤◌, ◌<◌, eqb
 ghost use Rattle.bitset.specs.Numbers.{has};
 ghost use Rattle.rows.specs.Rows.{pair};
 ghost use Rattle.pairs.specs.Lifetimes.{max_pairs};
-ghost use Rattle.pairs.specs.inner.Noting.{Noted};
+ghost use Rattle.pairs.specs.inner.Noting.{Noted, NotedWhere};
+
+use bitset::Members;
 
 // A number for each pair of states.
 pub const PAIRS: usize = semiautomata::MAX_STATES * semiautomata::MAX_STATES;
@@ -16,19 +18,19 @@ fn note_row(lifetimes: &mut [u16], s: usize, set: u64, letters: u16)
     requires { (s < 64) × (length lifetimes.old ≡ max_pairs) }
     ensures { Noted (λ x t. eqb s x && has set t) letters lifetimes.old lifetimes.new }
 {
-    let mut rest = set;
-    while rest != 0 {
-        let t = u64::trailing_zeros(rest) as usize;
+    for t in Members::of(set) {
         lifetimes[s * 64 + t] = letters;
-        rest &= rest - 1;
     }
 }
 
-// The number of each struck pair; the others are kept.
+// The number of each struck pair; the others are kept. Where not as many numbers are lent as there are pairs, nothing is written.
 pub fn note(lifetimes: &mut [u16], n: usize, struck: &[u64; 64], letters: u16)
-    requires { (n ≤ 64) × (length lifetimes.old ≡ max_pairs) }
-    ensures { Noted (λ s t. ltb s n && pair struck.now s t) letters lifetimes.old lifetimes.new }
+    requires { n ≤ 64 }
+    ensures { NotedWhere (λ s t. ltb s n && pair struck.now s t) letters lifetimes.old lifetimes.new }
 {
+    if lifetimes.len() != PAIRS {
+        return;
+    }
     for s in 0..n {
         note_row(lifetimes, s, struck[s], letters);
     }

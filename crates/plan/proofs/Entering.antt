@@ -1,6 +1,6 @@
 -- What holds between two turns of the loops over starts and lines: `-none` before the first, `-next` or `-off` after one more.
 -- Assumes nothing.
-use Prim.Native.Nat.{ℕ, suc, ◌+◌, ◌*◌, ◌^◌, ◌%◌, ◌/◌, ◌≤◌, ◌<◌, max}
+use Prim.Native.Nat.{ℕ, suc, ◌+◌, ◌*◌, ◌^◌, ◌%◌, ◌≤◌, ◌<◌, max}
 use mathlib.Core.Bool.{Bool, true, false, not, ◌&&◌, ◌||◌, true≢false, and-true, and-false, or-true, or-false, or_assoc}
 use mathlib.Core.Path.{◌≡◌, refl, sym, ◌∙◌, subst}
 use mathlib.Core.Logic.{◌⊎◌, inl, inr}
@@ -12,21 +12,21 @@ use native.Mathlib.Decide.{ℕ_discrete}
 use lib.Dec.{eqb, ltb, leb}
 use lib.ListN.{length, get_or, set, length-set}
 use lib.Seq.{get_or-set_same, get_or-set_other}
-use lib.Bits.{bit_and, bit_or, or_lt}
+use lib.Bits.{bit_or, or_lt}
 use lib.Pow.{pow-lt, pow_pos}
-use borrow.Author.Tests.{lt-ltb, ltb-true, ltb-false, lt-leb, leb-false, eqb-true, eq-eqb, ne_eqb, not-true, not-false}
-use Rattle.bitset.specs.Sets.{any, single}
+use borrow.Author.Tests.{lt-ltb, ltb-true, ltb-false, le-leb, lt-leb, leb-false, eqb-true, eq-eqb, ne_eqb, not-true, not-false}
+use Rattle.bitset.specs.Sets.{any}
 use Rattle.bitset.specs.Numbers.{has, set_of}
-use Rattle.bitset.proofs.Tests.{decided, not_so, or_none, same_test}
-use Rattle.bitset.proofs.Below.{any_none, any_not}
-use Rattle.bitset.proofs.Bits.{has_or, has_and, has_empty, has_set_of, has_insert, shl_one, same_members}
+use Rattle.bitset.proofs.Tests.{decided, not_so, or_left, or_right, or_none, same_test}
+use Rattle.bitset.proofs.Below.{any_in, any_none, any_not}
+use Rattle.bitset.proofs.Bits.{has_empty, has_set_of, has_insert, shl_one, same_members}
 use Rattle.semiautomata.specs.Sizes.{max_sets}
 use Rattle.semiautomata.specs.Successors.{place, Blank}
-use Rattle.semiautomata.proofs.Successors.{place_lt}
+use Rattle.semiautomata.proofs.BySets.{place_lt}
 use Rattle.semiautomata.proofs.Places.{size_le, place_same}
 use Rattle.plan.specs.declared.Line.{Line}
-use Rattle.plan.specs.Plan.{Plan, says, is_start, semiautomaton, max_party, twice, start_high, start_off, line_fits, line_off, party_high}
-use Rattle.plan.specs.inner.Steps.{StartsEntered, twice_of, LinesEntered}
+use Rattle.plan.specs.Plan.{Plan, says, is_start, semiautomaton, max_party, start_high, start_off, line_fits, line_off, party_high}
+use Rattle.plan.specs.inner.Steps.{LinesRead}
 use Rattle.plan.proofs.Tests.{not_and, not_ltb}
 use Rattle.plan.proofs.Plan.{says_is}
 
@@ -39,47 +39,55 @@ lines_to i P = record { edition = P.edition; n = P.n; m = P.m; p = P.p; e = i; s
 
 -- STARTS
 
+-- the first i starts are entered, and 5 does not apply to them
+pub record StartsRead (P : Plan) (set : ℕ) : Type 0 where
+  pub set_is : set ≡ set_of P.n (is_start P)
+  pub on : start_off P ≡ false
+
 -- a number with the members of p below n
 is_set : (n : ℕ) (p : ℕ → Bool) (r : ℕ) → ((t : ℕ) → has r t ≡ (ltb t n && p t)) → r ≡ set_of n p
 is_set n p r f = same_members r (set_of n p) (λ t. f t ∙ sym (has_set_of n p t))
 
-pub starts_none : (P : Plan) → StartsEntered (starts_to 0 P) (record { set = 0; off = false })
+pub starts_none : (P : Plan) → StartsRead (starts_to 0 P) 0
 unfolding any
-starts_none P = record { set_is = is_set P.n _ 0 (λ t. rw (has_empty, and-false)); off_is = refl }
+starts_none P = record { set_is = is_set P.n _ 0 (λ t. rw (has_empty, and-false)); on = refl }
 
-module _ (P : Plan) (states : P.n ≤ 64) {i set : ℕ} {off : Bool} (w : StartsEntered (starts_to i P) (record { set = set; off = off })) where
-  -- the set with the start i in it, if that is a state
-  abbrev with_start : ℕ
-  with_start = bit_or set (bit_and (set_of 64 (single (P.start i))) (set_of 64 (λ t. ltb t P.n)))
+module _ (P : Plan) {i set : ℕ} (w : StartsRead (starts_to i P) set) {s : ℕ} (is : s ≡ P.start i) where
+  -- a start that is a state is there already if it is one of those before
+  there_is : s < P.n → has set s ≡ any i (λ j. eqb (P.start j) (P.start i))
+  there_is h = rw (w.set_is, has_set_of, lt-ltb s P.n h, is)
 
-  start_entered : (t : ℕ) → (ltb t P.n ≡ true) ⊎ (ltb t P.n ≡ false)
-      → has with_start t ≡ (ltb t P.n && is_start (starts_to (suc i) P) t)
-  unfolding any
-  start_entered t (inl e) =
-      rw (has_or, w.set_is, has_set_of, has_and, has_set_of, has_set_of, e, lt-ltb t 64 (omega (arith, ltb-true t P.n e)), and-true)
-  start_entered t (inr e) = rw (has_or, w.set_is, has_set_of, has_and, has_set_of, has_set_of, e, and-false, and-false)
+  -- 5: it is no state, or there already
+  pub starts_high : i < P.p → P.n ≤ s → start_off P ≡ true
+  starts_high g h = or_left (start_high P) _ (any_in P.p (λ i. leb P.n (P.start i)) i g (rw is at (le-leb P.n s h)))
 
-  start_off_lem : ((off || leb P.n (P.start i)) || has set (P.start i)) ≡ start_off (starts_to (suc i) P)
-  unfolding any
-  start_off_lem = elim (decided (leb P.n (P.start i))) [
-    | inl e ↦ rw (e, or-true, or-true)
-    | inr e ↦ rw (e, w.off_is, w.set_is, has_set_of, lt-ltb (P.start i) P.n (leb-false P.n (P.start i) e))
-        (regroup (start_high (starts_to i P)) (twice i (λ i j. eqb (P.start i) (P.start j))) _)
-  ]
-    where
-      regroup : (a b x : Bool) → (((a || b) || false) || x) ≡ ((a || false) || (b || x))
-      regroup a b x = simp (or-false, or_assoc)
+  pub starts_again : i < P.p → s < P.n → has set s ≡ true → start_off P ≡ true
+  starts_again g h e =
+      or_right (start_high P) _ (any_in P.p (λ j. any j (λ i. eqb (P.start i) (P.start j))) i g (sym (there_is h) ∙ e))
 
-  pub starts_next : {s one all : ℕ} {there : Bool} → s ≡ P.start i → one ≡ set_of 64 (single s) → all ≡ set_of 64 (λ t. ltb t P.n)
-      → there ≡ has set s
-      → StartsEntered (starts_to (i + 1) P) (record { set = bit_or set (bit_and one all); off = (off || leb P.n s) || there })
-  starts_next e o a t =
-      rw (o, a, t, e, add-one) (record { set_is = is_set P.n _ _ (λ t. start_entered t (decided (ltb t P.n))); off_is = start_off_lem })
+  module _ (states : P.n ≤ 64) (h : s < P.n) (e : has set s ≡ false) where
+    on_next : start_off (starts_to (suc i) P) ≡ false
+    unfolding any
+    on_next =
+        let (high, again) = or_none (start_high (starts_to i P)) _ w.on in
+        rw (high, again, ← is, lt-leb P.n s h, is, sym (there_is h) ∙ e)
+
+    entered : (t : ℕ) → has (bit_or set ((1 * 2 ^ s) % 2 ^ 64)) t ≡ (ltb t P.n && is_start (starts_to (suc i) P) t)
+    unfolding any
+    entered t = elim (decided (eqb s t)) [
+      | inl d ↦
+          let one : s ≡ t = eqb-true s t d in
+          rw (has_insert 64 set s t (lt_of_lt_of_le h states), ← is, d, or-true, or-true, lt-ltb t P.n (rw one at h))
+      | inr d ↦ rw (has_insert 64 set s t (lt_of_lt_of_le h states), ← is, d, or-false, or-false, w.set_is, has_set_of)
+    ]
+
+    pub starts_next : StartsRead (starts_to (i + 1) P) (bit_or set ((1 * 2 ^ s) % 2 ^ 64))
+    starts_next = rw add-one (record { set_is = is_set P.n _ _ entered; on = on_next })
 
 -- LINES
 
 pub lines_none : (P : Plan) (party : ℕ) {sets : List ℕ} → Blank max_sets sets
-    → LinesEntered (lines_to 0 P) party sets (record { off = false; twice = false; highest = 0 })
+    → LinesRead (lines_to 0 P) party sets false (record { twice = false; highest = 0 })
 unfolding any
 lines_none P party b = record {
   size = b.long;
@@ -144,7 +152,7 @@ above_max c a b = same_test _ _
     ]))
 
 module _ (P : Plan) (party : ℕ) (states : P.n ≤ 64) (letters : P.m ≤ 32) {i : ℕ} {sets : List ℕ} {off again : Bool} {highest : ℕ}
-    (w : LinesEntered (lines_to i P) party sets (record { off = off; twice = again; highest = highest })) where
+    (w : LinesRead (lines_to i P) party sets off (record { twice = again; highest = highest })) where
   abbrev l : Line
   l = P.line i
 
@@ -161,8 +169,7 @@ module _ (P : Plan) (party : ℕ) (states : P.n ≤ 64) (letters : P.m ≤ 32) {
 
   -- a line with a number off, or of another party, is not entered
   lines_over : passed_over P party l ≡ true
-      → LinesEntered (lines_to (i + 1) P) party sets
-      (record { off = off || off_test P l; twice = again; highest = max highest l.party })
+      → LinesRead (lines_to (i + 1) P) party sets (off || off_test P l) (record { twice = again; highest = max highest l.party })
   unfolding any
   lines_over e = rw add-one (record {
     size = w.size;
@@ -230,12 +237,7 @@ module _ (P : Plan) (party : ℕ) (states : P.n ≤ 64) (letters : P.m ≤ 32) {
           rw (get_or-set_other sets _ (place P.m q a) _ 0 e, w.edges q a t h g k, other, or-false)
     ]
 
-    lines_next : LinesEntered (lines_to (i + 1) P) party (with_line P l sets)
-        (record {
-          off = off || off_test P l;
-          twice = again || there_already P l sets;
-          highest = max highest l.party;
-        })
+    lines_next : LinesRead (lines_to (i + 1) P) party (with_line P l sets) (off || off_test P l) (record { twice = again || there_already P l sets; highest = max highest l.party })
     unfolding any
     lines_next = rw add-one (record {
       size = length-set sets _ _ ∙ w.size;
@@ -256,34 +258,26 @@ module _ (P : Plan) (party : ℕ) (states : P.n ≤ 64) (letters : P.m ≤ 32) {
 
 -- .. and of the line as it is read
 module _ (P : Plan) (party : ℕ) (states : P.n ≤ 64) (letters : P.m ≤ 32) {i : ℕ} {sets : List ℕ} {off again : Bool} {highest : ℕ}
-    (w : LinesEntered (lines_to i P) party sets (record { off = off; twice = again; highest = highest }))
+    (w : LinesRead (lines_to i P) party sets off (record { twice = again; highest = highest }))
     {l : Line} (is : l ≡ P.line i) {high : ℕ} (larger : high ≡ max highest l.party) where
   pub read_over : passed_over P party l ≡ true
-      → LinesEntered (lines_to (i + 1) P) party sets (record { off = off || off_test P l; twice = again; highest = high })
+      → LinesRead (lines_to (i + 1) P) party sets (off || off_test P l) (record { twice = again; highest = high })
   read_over e = rw (larger, is) (lines_over P party states letters w (rw is at e))
 
   module _ (e : passed_over P party l ≡ false) where
     pub read_place : (line_place P l < 2048) × (l.to < 64)
     read_place = rw is (place_in P party states letters w (rw is at e))
 
-    pub read_next : LinesEntered (lines_to (i + 1) P) party (with_line P l sets)
-        (record {
-          off = off || off_test P l;
-          twice = again || there_already P l sets;
-          highest = high;
-        })
+    pub read_next : LinesRead (lines_to (i + 1) P) party (with_line P l sets) (off || off_test P l) (record { twice = again || there_already P l sets; highest = high })
     read_next = rw (larger, is) (lines_next P party states letters w (rw is at e))
 
 -- LINES OF ANOTHER PARTY, where 6 does not apply: they are entered too, and no highest party is kept
 pub record Sought (P : Plan) (party : ℕ) (sets : List ℕ) (again : Bool) : Type 0 where
   pub highest : ℕ
-  pub entered : LinesEntered P party sets (record { off = false; twice = again; highest = highest })
+  pub entered : LinesRead P party sets false (record { twice = again; highest = highest })
 
 pub sought_none : (P : Plan) (party : ℕ) {sets : List ℕ} → Blank max_sets sets → Sought (lines_to 0 P) party sets false
 sought_none P party b = record { highest = 0; entered = lines_none P party b }
-
-pub sought_all : {P : Plan} {party : ℕ} {sets : List ℕ} {again : Bool} → Sought P party sets again → again ≡ twice_of P party
-sought_all s = s.entered.twice_is refl
 
 module _ (P : Plan) (party : ℕ) (states : P.n ≤ 64) (letters : P.m ≤ 32) (none-off : line_off P ≡ false) {i : ℕ} (g : i < P.e)
     {sets : List ℕ} {again : Bool} (s : Sought (lines_to i P) party sets again) {l : Line} (is : l ≡ P.line i) where
@@ -292,12 +286,12 @@ module _ (P : Plan) (party : ℕ) (states : P.n ≤ 64) (letters : P.m ≤ 32) (
 
   -- what is so with the line's test of its numbers is so without
   untested : {sets : List ℕ} {again : Bool} {high : ℕ}
-      → LinesEntered (lines_to (i + 1) P) party sets (record { off = off_test P l; twice = again; highest = high })
+      → LinesRead (lines_to (i + 1) P) party sets (off_test P l) (record { twice = again; highest = high })
       → Sought (lines_to (i + 1) P) party sets again
   untested {sets} {again} {high} e = record {
     highest = high;
     entered =
-        subst (λ (b : Bool). LinesEntered (lines_to (i + 1) P) party sets (record { off = b; twice = again; highest = high })) on_plan e;
+        subst (λ (b : Bool). LinesRead (lines_to (i + 1) P) party sets b (record { twice = again; highest = high })) on_plan e;
   }
 
   pub sought_over : ¬ (l.party ≡ party) → Sought (lines_to (i + 1) P) party sets again

@@ -9,3 +9,4 @@ pub mod Readings
 pub mod Loading
 pub mod Theorems
 pub mod Parties
+pub mod Over

@@ -1,12 +1,12 @@
 -- The theorems of specs/Parties.antt.
 -- Assumes nothing.
 use Prim.Native.Nat.{ℕ, zero, suc, ◌≤◌, ◌<◌}
-use mathlib.Core.Bool.{Bool, true, false, not, ◌&&◌, ◌||◌, true≢false, or-false}
+use mathlib.Core.Bool.{true, false, true≢false}
 use mathlib.Core.Path.{◌≡◌, refl, sym, ◌∙◌, fun_ext}
 use mathlib.Core.Logic.{◌↔◌}
 use mathlib.Core.List.{List, [], ◌∷◌}
 use native.Mathlib.Omega.{arith}
-use lib.Dec.{eqb, ltb}
+use lib.Dec.{ltb}
 use lib.ListN.{length}
 use borrow.Author.Tests.{eqb-true, not-false, ltb-false, le-ltb}
 use Rattle.bitset.proofs.Tests.{not_so, or_none}
@@ -18,7 +18,7 @@ use Rattle.refusals.specs.Groups.{last_refusal}
 use Rattle.refusals.proofs.First.{first_behind, first_before}
 use Rattle.plan.specs.Asked.{refusal_of, Passes}
 use Rattle.plan.specs.Bytes.{header_of, parsed, meaning, plan_checks, asked_checks, asked, refusal, WellFormed}
-use Rattle.plan.specs.Parties.{Alone, Lineless, Theorems}
+use Rattle.plan.specs.Parties.{Lineless, Theorems}
 use Rattle.plan.proofs.Plan.{says_is}
 use Rattle.plan.proofs.Refusals.{plan_numbered, named, asked_passes, asked_zero}
 

@@ -1,18 +1,18 @@
 -- Lines that stand twice, party by party: two lines that are the same are of one party.
 -- Assumes nothing.
-use Prim.Native.Nat.{ℕ, suc, ◌+◌, ◌≤◌, ◌<◌}
-use mathlib.Core.Bool.{Bool, true, false, not, ◌&&◌, ◌||◌, or-false}
-use mathlib.Core.Path.{◌≡◌, refl, sym, ◌∙◌}
+use Prim.Native.Nat.{ℕ, ◌+◌, ◌≤◌, ◌<◌}
+use mathlib.Core.Bool.{Bool, true, not, ◌&&◌, ◌||◌, or-false}
+use mathlib.Core.Path.{◌≡◌, refl}
 use mathlib.Core.Logic.{inl, inr}
 use native.Mathlib.Omega.{arith}
 use native.Mathlib.Numerals.{add-one}
 use native.Mathlib.Decide.{ℕ_discrete}
 use lib.Dec.{eqb}
-use borrow.Author.Tests.{eq-eqb, ne_eqb, eqb-true}
+use borrow.Author.Tests.{eq-eqb, ne_eqb}
 use Rattle.bitset.specs.Sets.{any}
 use Rattle.bitset.proofs.Tests.{and_in, and_out, or_left, or_right, or_cases, same_test}
 use Rattle.bitset.proofs.Below.{any_in, any_out, with_any}
-use Rattle.plan.specs.Plan.{Plan, same_line, line_twice}
+use Rattle.plan.specs.Plan.{Plan, line_twice}
 use Rattle.plan.specs.inner.Steps.{twice_of}
 
 -- ONE PARTY MORE

@@ -13,6 +13,8 @@ use Rattle.bitset.proofs.Tests.{and_out, or_none}
 use Rattle.semiautomata.specs.Semiautomaton.{Within}
 use Rattle.refusals.specs.Checks.{Check, within, first_of, Numbered}
 use Rattle.refusals.specs.Groups.{last_refusal}
+use Rattle.refusals.specs.Named.{number_of}
+use Rattle.refusals.specs.declared.Refusal.{Refusal}
 use Rattle.refusals.proofs.First.{Passed, first_passed, first_behind, first_before, first_both, first_other}
 use Rattle.plan.specs.declared.Header.{Header}
 use Rattle.plan.specs.Plan.{count_off, start_high, start_off, line_off, line_twice, party_high, party_off}
@@ -70,6 +72,10 @@ module _ (plan : List ℕ) (h : Header) where
   header_clear clear = header_passed (first_passed 4 (header_checks (length plan) h) refl clear)
 
 -- THE FIRST THAT APPLIES
+
+-- a refusal has a number
+pub number_some : (r : Refusal) → ¬ (number_of r ≡ 0)
+number_some r = grind arith
 
 pub plan_numbered : (plan : List ℕ) → Numbered last_refusal (plan_checks plan)
 unfolding plan_checks

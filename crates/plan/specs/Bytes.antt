@@ -9,8 +9,7 @@ use Rattle.plan.specs.Plan.{Plan, line, semiautomaton, count_off, start_off, lin
 use Rattle.plan.specs.Asked.{Asked, refusal_of, Passes}
 use Rattle.plan.specs.declared.Header.{Header}
 use Rattle.plan.specs.declared.Line.{Line}
-use Rattle.plan.specs.declared.Reading.{Reading}
-use Rattle.plan.specs.declared.Reading.TheVariants.{Counts, Refused}
+use Rattle.plan.specs.declared.Counts.{Counts}
 
 -- Eight little-endian 16-bit numbers, in order: edition, n, m, p, e, offset of starts, offset of lines, total length.
 abbrev pub header_of : List ℕ → Header
@@ -106,19 +105,9 @@ asked_checks plan party = plan_checks plan ++ (record { number = 16; applies = p
 abbrev pub asked : List ℕ → ℕ → Asked
 asked plan party = record { checks = asked_checks plan party; means = meaning plan party }
 
--- What reading answers: n, m, p and e, or the refusal.
-pub record PlanCounts : Type 0 where
-  pub n : ℕ
-  pub m : ℕ
-  pub p : ℕ
-  pub e : ℕ
+-- What reading answers: the header's counts, or the refusal.
+abbrev pub counts_of : Header → Counts
+counts_of h = record { n = h.n; m = h.m; p = h.p; e = h.e }
 
-abbrev pub outcome_of_reading : Reading → Outcome PlanCounts
-outcome_of_reading (Counts n m p e) = answered (record { n = n; m = m; p = p; e = e })
-outcome_of_reading (Refused r) = refused r
-
-abbrev pub plan_counts : Header → PlanCounts
-plan_counts h = record { n = h.n; m = h.m; p = h.p; e = h.e }
-
-abbrev pub reading : List ℕ → Outcome PlanCounts
-reading plan = cond (eqb (refusal plan) 0) (answered (plan_counts (header_of plan))) (refused (refusal plan))
+abbrev pub reading : List ℕ → Outcome Counts
+reading plan = cond (eqb (refusal plan) 0) (answered (counts_of (header_of plan))) (refused (refusal plan))

@@ -3,6 +3,7 @@ pub mod Asked
 pub mod Bytes
 pub mod Written
 pub mod Loading
+pub mod Listed
 pub mod Theorems
 pub mod Parties
 pub mod inner

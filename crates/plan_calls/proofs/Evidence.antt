@@ -1,6 +1,7 @@
 -- The numbers of preparing's answers are small; and a claim of fewer than six numbers is not true.
 -- Assumes nothing.
-use Prim.Native.Nat.{ℕ, ◌<◌}
+use Rattle.std.specs.Prelude.{Bool, true, false, Result, Ok, Err, IfOk}
+use Prim.Native.Nat.{ℕ, ◌^◌, ◌<◌}
 use mathlib.Core.Path.{◌≡◌, refl}
 use mathlib.Core.List.{List}
 use native.Mathlib.Omega.{arith}
@@ -9,27 +10,21 @@ use Rattle.semiautomata.specs.Semiautomaton.{Semiautomaton}
 use Rattle.plan.specs.Asked.{Asked, Proper}
 use Rattle.lookahead.specs.declared.Evidence.{Evidence}
 use Rattle.lookahead.specs.Answers.{TrueOf}
-use Rattle.prepare.specs.declared.Prepared.{Prepared}
-use Rattle.prepare.specs.declared.Prepared.TheVariants.{Ready, Refused, Unpredictable}
-use Rattle.prepare.specs.Preparing.{Prepares, CountsTo}
-use Rattle.claim.specs.declared.Checked.{Checked}
-use Rattle.claim.specs.declared.Checked.TheVariants as checked
+use Rattle.refusals.specs.declared.Refusal.{Refusal}
+use Rattle.prepare.specs.Preparing.{Prepared, Prepares, CountsTo}
 use Rattle.claim.specs.Checking.{Checks}
 use Rattle.plan.proofs.Asked.{clear_passes}
 use Rattle.prepare.proofs.Answers.{small}
 use Rattle.plan_calls.specs.Promises.{of_checked, claim_of, PassesCheck}
-use Rattle.plan_calls.specs.inner.Sizes.{Fit32}
 
 module _ (A : Asked) (P : Proper A) where
-  pub prepares_fit : (a : Prepared) (old table old' letters : List ℕ) → Prepares A a old table old' letters → Fit32 a
-  prepares_fit (Ready k) old table old' letters ((p, a), _, _) = omega (arith, small (P.sized (clear_passes A P _ p)) k a)
-  prepares_fit (Refused r) old table old' letters _ = tt
-  prepares_fit (Unpredictable e) old table old' letters _ = tt
+  pub prepares_fit : (a : Prepared) (old table old' letters : List ℕ) → Prepares A a old table old' letters → IfOk a (λ k. k < 2 ^ 32)
+  prepares_fit (Ok k) old table old' letters ((p, a), _, _) = omega (arith, small (P.sized (clear_passes A P _ p)) k a)
+  prepares_fit (Err u) old table old' letters _ = tt
 
-  pub counts_fit : (a : Prepared) (old letters : List ℕ) → CountsTo A a old letters → Fit32 a
-  counts_fit (Ready k) old letters ((p, a), _) = omega (arith, small (P.sized (clear_passes A P _ p)) k a)
-  counts_fit (Refused r) old letters _ = tt
-  counts_fit (Unpredictable e) old letters _ = tt
+  pub counts_fit : (a : Prepared) (old letters : List ℕ) → CountsTo A a old letters → IfOk a (λ k. k < 2 ^ 32)
+  counts_fit (Ok k) old letters ((p, a), _) = omega (arith, small (P.sized (clear_passes A P _ p)) k a)
+  counts_fit (Err u) old letters _ = tt
 
 -- the sixth number is the length of the cycle
 pub short_false : (S : Semiautomaton) (claim letters : List ℕ) → length claim < 6 → ¬ TrueOf S (claim_of claim) letters
@@ -39,23 +34,23 @@ short_false S claim letters h t =
 
 module _ (A : Asked) (claim letters : List ℕ) where
   -- what the check of a claim answers, in a number
-  pub passes_check : {c : Evidence} → c ≡ claim_of claim → (a : Checked) → Checks A c letters a → {r : ℕ} → r ≡ (of_checked a).first
+  pub passes_check : {c : Evidence} → c ≡ claim_of claim → (a : Result Bool Refusal) → Checks A c letters a → {r : ℕ} → r ≡ (of_checked a).first
       → PassesCheck A claim letters r
   passes_check i a m e = go a (rw i at m) e
     where
-      go : (a : Checked) → Checks A (claim_of claim) letters a → {r : ℕ} → r ≡ (of_checked a).first → PassesCheck A claim letters r
-      go checked.Yes m e = record {
-        answer = checked.Yes;
+      go : (a : Result Bool Refusal) → Checks A (claim_of claim) letters a → {r : ℕ} → r ≡ (of_checked a).first → PassesCheck A claim letters r
+      go (Ok true) m e = record {
+        answer = Ok true;
         meets = m;
         passed = record { answered = e; written = refl };
         short = λ h _. short_false A.means claim letters h (m.1.0 refl);
       }
-      go checked.No m e = record {
-        answer = checked.No;
+      go (Ok false) m e = record {
+        answer = Ok false;
         meets = m;
         passed = record { answered = e; written = refl };
         short =
             λ _ z. omega arith;
       }
-      go (checked.Refused r) m e =
-          record { answer = checked.Refused r; meets = m; passed = record { answered = e; written = refl }; short = λ _ z. omega arith }
+      go (Err r) m e =
+          record { answer = Err r; meets = m; passed = record { answered = e; written = refl }; short = λ _ z. omega arith }

@@ -1,5 +1,6 @@
 -- The theorems of specs/Parties.antt: what a call gives depends on what is asked by its refusal and by what is meant alone.
 -- Assumes nothing.
+use Rattle.std.specs.Prelude.{Result}
 use Prim.Native.Nat.{ℕ}
 use mathlib.Core.Bool.{Bool, true, ◌||◌}
 use mathlib.Core.Path.{◌≡◌, sym, ◌∙◌, ap, subst, fun_ext}
@@ -17,15 +18,13 @@ use Rattle.plan.proofs.Refusals.{asked_proper, asked_zero}
 use Rattle.plan.proofs.Parties.{theorems as of-parties}
 use Rattle.table.specs.Table.{contents}
 use Rattle.lookahead.specs.Answers.{TrueOf}
-use Rattle.claim.specs.declared.Checked.{Checked}
-use Rattle.claim.specs.Checking.{outcome_of_checked, Checks}
-use Rattle.prepare.specs.declared.Prepared.{Prepared}
-use Rattle.prepare.specs.Preparing.{short_table, short_letters, outcome_of_prepared, LooksAhead, LeavesTable, LeavesLetters, as_number}
+use Rattle.refusals.specs.Named.{outcome_of}
+use Rattle.refusals.specs.declared.Refusal.{Refusal}
+use Rattle.claim.specs.Checking.{Checks}
+use Rattle.prepare.specs.Preparing.{Prepared, short_table, short_letters, outcome_of_prepared, LooksAhead, LeavesTable, LeavesLetters, as_number}
 use Rattle.prepare.specs.Preparing.{Prepares, CountsTo}
-use Rattle.needs.specs.declared.Needs.{Needs}
-use Rattle.needs.specs.Needs.{TellsNeeds, short_needs, entries, Filled, outcome_of_needs, NeedsOf}
+use Rattle.needs.specs.Needs.{TellsNeeds, short_needs, entries, Filled, NeedsOf}
 use Rattle.needs.proofs.Theorems.{looked}
-use Rattle.pages.specs.declared.Page.{Page}
 use Rattle.pages.specs.Page.{page}
 use Rattle.pages.specs.Paging.{PageGives, PageOf}
 use Rattle.numbers.specs.Numbers.{Numbers, no_room, PassesOn, answers, refuses}
@@ -73,15 +72,15 @@ module _ (A B : Asked) (P : Proper A) (Q : Proper B) (e : refusal_of A ≡ refus
   counts_over a old letters =
       with_9 (λ f S. LooksAhead (f (short_letters S (length old))) S (outcome_of_prepared a) × LeavesLetters S a old letters)
 
-  checks_over : (claim letters : List ℕ) (a : Checked) → Checks A (claim_of claim) letters a → Checks B (claim_of claim) letters a
+  checks_over : (claim letters : List ℕ) (a : Result Bool Refusal) → Checks A (claim_of claim) letters a → Checks B (claim_of claim) letters a
   checks_over claim letters a =
-      without_9 (λ r S. Gives r Unit (λ yes. (yes ≡ true) ↔ TrueOf S (claim_of claim) letters) (outcome_of_checked a))
+      without_9 (λ r S. Gives r Unit (λ yes. (yes ≡ true) ↔ TrueOf S (claim_of claim) letters) (outcome_of a))
 
-  needs_over : (a : Needs) (old needs : List ℕ) → NeedsOf A a old needs → NeedsOf B a old needs
+  needs_over : (a : Result ℕ Refusal) (old needs : List ℕ) → NeedsOf A a old needs → NeedsOf B a old needs
   needs_over a old needs = with_9 (λ f S.
-      Gives (f (short_needs S (length old))) (needs ≡ old) (λ count. (count ≡ entries S) × Filled S old needs) (outcome_of_needs a))
+      Gives (f (short_needs S (length old))) (needs ≡ old) (λ count. (count ≡ entries S) × Filled S old needs) (outcome_of a))
 
-  page_over : (a : Page) (old out : List ℕ) → PageOf A a old out → PageOf B a old out
+  page_over : (a : Result ℕ Refusal) (old out : List ℕ) → PageOf A a old out → PageOf B a old out
   page_over a old out p = record {
     numbers = p.numbers;
     tells = λ w. subst (λ (S : Semiautomaton). TellsNeeds S p.numbers) m (p.tells (e ∙ w));

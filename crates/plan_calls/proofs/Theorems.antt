@@ -1,5 +1,6 @@
 -- The theorems of specs/Theorems.antt.
 -- Assumes nothing.
+use Rattle.std.specs.Prelude.{Result, Ok, Err}
 use Prim.Native.Nat.{ℕ, ◌≤◌, ◌<◌}
 use mathlib.Core.Option.{some}
 use mathlib.Core.Path.{◌≡◌, refl, sym, ◌∙◌, ap}
@@ -14,31 +15,26 @@ use Rattle.plan.specs.Asked.{Asked, refusal_of, Passes, Proper}
 use Rattle.plan.specs.Bytes.{unnamed}
 use Rattle.plan.proofs.Asked.{clear_passes}
 use Rattle.plan.proofs.Refusals.{unnamed_proper}
-use Rattle.prepare.specs.declared.Prepared.{Prepared}
-use Rattle.prepare.specs.declared.Prepared.TheVariants as prepare
-use Rattle.prepare.specs.Preparing.{LooksAhead, outcome_of_prepared, as_number, Draws}
+use Rattle.refusals.specs.Named.{outcome_of}
+use Rattle.refusals.specs.declared.Refusal.{Refusal}
+use Rattle.prepare.specs.declared.Unprepared.TheVariants as prepare
+use Rattle.prepare.specs.Preparing.{Prepared, LooksAhead, outcome_of_prepared, as_number, Draws}
 use Rattle.prepare.specs.Theorems.{EitherCall}
 use Rattle.prepare.proofs.Answers.{small}
 use Rattle.prepare.proofs.Theorems.{theorems as preparing-theorems}
-use Rattle.filing.specs.declared.Writing.{Writing}
-use Rattle.filing.specs.declared.Writing.TheVariants.{Bytes, Refused}
 use Rattle.filing.specs.Writing.{Writes}
 use Rattle.filing.specs.Theorems.{WrittenFor}
 use Rattle.filing.proofs.Form.{written_few}
-use Rattle.needs.specs.declared.Needs.{Needs}
-use Rattle.needs.specs.declared.Needs.TheVariants as told
-use Rattle.needs.specs.Needs.{Of, place_of, TellsNeeds, largest, outcome_of_needs, NeedsOf}
+use Rattle.needs.specs.Needs.{Of, place_of, TellsNeeds, largest, NeedsOf}
 use Rattle.needs.specs.Theorems.{LookedAhead, SomeEndless}
 use Rattle.needs.specs.Theorems as needs_theorems
 use Rattle.needs.proofs.Theorems.{looked, needs_few, met}
-use Rattle.pages.specs.declared.Page.{Page}
-use Rattle.pages.specs.declared.Page.TheVariants as pages
 use Rattle.pages.specs.Page.{page, max_page}
-use Rattle.pages.specs.Paging.{outcome_of_page, PageOf}
+use Rattle.pages.specs.Paging.{PageOf}
 use Rattle.pages.proofs.Theorems.{met as pages-met}
 use Rattle.numbers.specs.Numbers.{Passed, Number, value, refusal as refusal-number, answers, refuses}
 use Rattle.numbers.proofs.Answering.{gives_number}
-use Rattle.plan_calls.specs.Promises.{evidence_of, of_writing, of_needs, of_page, claim_of, PassesPage}
+use Rattle.plan_calls.specs.Promises.{evidence_of, of_count, of_page, claim_of, PassesPage}
 use Rattle.plan_calls.specs.Theorems.{AnswersAhead, prepared, counted, drawn, ShowsEvidence, Unnamed, Met}
 use Rattle.plan_calls.proofs.Answering.{unread_number, short_number, reading_number, prepared_number, counted_number, checked_number}
 
@@ -51,42 +47,42 @@ drawn_number A P d = rw d.is (go d.outcome d.looks_ahead)
     go (answered k) (w, l) = let h = small (P.sized w) k l in value (omega arith)
 
 -- what writing answers, and what it wrote
-written_number : (plan old out : List ℕ) (a : Writing) → Writes plan a old out → Number (of_writing a).first
-written_number plan old out (Bytes count) w = value (omega (arith, written_few plan old out count w))
-written_number plan old out (Refused r) (e, z, _) = short_number (unnamed plan) (unnamed_proper plan) _ e z
+written_number : (plan old out : List ℕ) (a : Result ℕ Refusal) → Writes plan a old out → Number (of_count a).first
+written_number plan old out (Ok count) w = value (omega (arith, written_few plan old out count w))
+written_number plan old out (Err r) (e, z, _) = short_number (unnamed plan) (unnamed_proper plan) _ e z
 
-written_for : (plan old out : List ℕ) (r : ℕ) (a : Writing) → Writes plan a old out → r ≡ (of_writing a).first → r < 65536
+written_for : (plan old out : List ℕ) (r : ℕ) (a : Result ℕ Refusal) → Writes plan a old out → r ≡ (of_count a).first → r < 65536
     → WrittenFor plan (take r out)
-written_for plan old out r (Bytes count) w e h = record { count = count; old = old; out = out; writes = w; are = rw e }
-written_for plan old out r (Refused x) w e h = absurd (omega arith)
+written_for plan old out r (Ok count) w e h = record { count = count; old = old; out = out; writes = w; are = rw e }
+written_for plan old out r (Err x) w e h = absurd (omega arith)
 
 -- how many needs there are, and what they tell
-needed_number : (A : Asked) (P : Proper A) (old needs : List ℕ) (a : Needs) → NeedsOf A a old needs → Number (of_needs a).first
-needed_number A P old needs (told.Entries count) d = value (omega (arith, needs_few A P count old needs d))
-needed_number A P old needs (told.Refused r) (e, z, _) = short_number A P _ e z
+needed_number : (A : Asked) (P : Proper A) (old needs : List ℕ) (a : Result ℕ Refusal) → NeedsOf A a old needs → Number (of_count a).first
+needed_number A P old needs (Ok count) d = value (omega (arith, needs_few A P count old needs d))
+needed_number A P old needs (Err r) (e, z, _) = short_number A P _ e z
 
-needed_is : (a : Needs) {count : ℕ} → outcome_of_needs a ≡ answered count → (of_needs a).first ≡ count
+needed_is : (a : Result ℕ Refusal) {count : ℕ} → outcome_of a ≡ answered count → (of_count a).first ≡ count
 needed_is a e = rw e
 
-told_of : (A : Asked) (P : Proper A) (old needs : List ℕ) (r : ℕ) (a : Needs) → NeedsOf A a old needs → r ≡ (of_needs a).first → r < 65536
+told_of : (A : Asked) (P : Proper A) (old needs : List ℕ) (r : ℕ) (a : Result ℕ Refusal) → NeedsOf A a old needs → r ≡ (of_count a).first → r < 65536
     → Passes A × needs_theorems.Theorems A (take r needs)
-told_of A P old needs r (told.Entries count) d e h =
+told_of A P old needs r (Ok count) d e h =
     (clear_passes A P _ d.0, rw e ((met A P).written count old needs d))
-told_of A P old needs r (told.Refused x) d e h = absurd (omega arith)
+told_of A P old needs r (Err x) d e h = absurd (omega arith)
 
 -- a page, and how many bytes it has
-paged_number : (A : Asked) (P : Proper A) (old out : List ℕ) (a : Page) → PageOf A a old out → Number (of_page a).first
-paged_number A P old out (pages.Bytes count) p = value (omega arith)
-paged_number A P old out (pages.Refused r) p = let (e, z, _) = p.gives in short_number A P _ e z
+paged_number : (A : Asked) (P : Proper A) (old out : List ℕ) (a : Result ℕ Refusal) → PageOf A a old out → Number (of_page a).first
+paged_number A P old out (Ok count) p = value (omega arith)
+paged_number A P old out (Err r) p = let (e, z, _) = p.gives in short_number A P _ e z
 
 -- a page that was not refused is one of so many bytes
 paged : (A : Asked) (P : Proper A) {r : ℕ} {old out old' count' : List ℕ} → PassesPage A r old out old' count' → r < 65536
-    → (r ≡ 0) × PageOf A (pages.Bytes (get_or count' 0 0)) old out
-paged A P (answers _ (pages.Bytes count) p s) h = (s.answered, rw s.written p)
-paged A P (answers _ (pages.Refused x) p s) h = absurd (omega (arith, s.answered))
+    → (r ≡ 0) × PageOf A (Ok (get_or count' 0 0)) old out
+paged A P (answers _ (Ok count) p s) h = (s.answered, rw s.written p)
+paged A P (answers _ (Err x) p s) h = absurd (omega (arith, s.answered))
 paged A P (refuses _ e _ _) h = absurd (omega (arith, e))
 
-paged_is : (a : Page) {count r : ℕ} {old count' : List ℕ} → outcome_of_page a ≡ answered count → Passed (of_page a) r old count'
+paged_is : (a : Result ℕ Refusal) {count r : ℕ} {old count' : List ℕ} → outcome_of a ≡ answered count → Passed (of_page a) r old count'
     → (r ≡ 0) × (get_or count' 0 0 ≡ count)
 paged_is a e p = let q = rw e at p in (q.answered, rw q.written)
 
@@ -104,12 +100,12 @@ paged_all A P {old = old} {out = out} (answers _ a p s) w room _ =
 paged_all A P (refuses short _ _ _) w room one = absurd (omega arith)
 
 -- .. of the numbers that the call for the needs wrote
-needed_page : (A : Asked) (P : Proper A) (old out : List ℕ) (count : ℕ) → PageOf A (pages.Bytes count) old out
-    → (answer : ℕ) (old' needs : List ℕ) (a : Needs) → NeedsOf A a old' needs → answer ≡ (of_needs a).first → answer < 65536
+needed_page : (A : Asked) (P : Proper A) (old out : List ℕ) (count : ℕ) → PageOf A (Ok count) old out
+    → (answer : ℕ) (old' needs : List ℕ) (a : Result ℕ Refusal) → NeedsOf A a old' needs → answer ≡ (of_count a).first → answer < 65536
     → take count out ≡ page A.means (take answer needs)
-needed_page A P old out count q answer old' needs (told.Entries entries) d e h =
+needed_page A P old out count q answer old' needs (Ok entries) d e h =
     rw e ((pages-met A P).of_needs count entries old out old' needs q d)
-needed_page A P old out count q answer old' needs (told.Refused x) d e h = absurd (omega arith)
+needed_page A P old out count q answer old' needs (Err x) d e h = absurd (omega arith)
 
 -- WHAT A LOOK-AHEAD IS ANSWERED WITH, in numbers
 
@@ -150,11 +146,11 @@ module _ (A : Asked) (P : Proper A) (w : Passes A) where
         → refusing 15 ≡ as_number (outcome_of_prepared a) → evidence ≡ evidence_of a ++ rest
         → (T : Critical) × (named A.means (get_or evidence 0 0) (get_or evidence 1 0) ≡ some T) × Of A.means T
         × (get_or numbers (place_of A.means T) 0 ≡ endless)
-    shown (prepare.Ready k) old letters rest d e _ =
+    shown (Ok k) old letters rest d e _ =
         absurd (omega (arith, few ((preparing-theorems A P).ready_so k old letters d)))
-    shown (prepare.Refused r) old letters rest (inl (_, (n, _))) e _ = absurd (n (omega arith))
-    shown (prepare.Refused r) old letters rest (inr (_, _, (_, _, (n, _)))) e _ = absurd (n (omega arith))
-    shown (prepare.Unpredictable x) old letters rest d e is = rw is (t.evidence_endless x old letters d)
+    shown (Err (prepare.Refused r)) old letters rest (inl (_, (n, _))) e _ = absurd (n (omega arith))
+    shown (Err (prepare.Refused r)) old letters rest (inr (_, _, (_, _, (n, _)))) e _ = absurd (n (omega arith))
+    shown (Err (prepare.Unpredictable x)) old letters rest d e is = rw is (t.evidence_endless x old letters d)
 
     evidence_ahead : {evidence : List ℕ} → ShowsEvidence A evidence
         → (T : Critical) × (named A.means (get_or evidence 0 0) (get_or evidence 1 0) ≡ some T) × Of A.means T

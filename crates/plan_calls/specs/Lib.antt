@@ -1,4 +1,3 @@
 pub mod Promises
 pub mod Theorems
 pub mod Parties
-pub mod inner

@@ -1,60 +1,53 @@
 -- What each call on a plan promises for C: some answer meets the promise of the call that it stands for, and its numbers are passed on.
 -- Without room for further values: the first check that applies of what is asked, or 9.
 -- Assumes nothing.
-use Rattle.std.specs.Prelude.{ℕ, ◌<◌, ◌≡◌, List, [], ◌∷◌, length, get_or}
+use Rattle.std.specs.Prelude.{ℕ, ◌<◌, ◌≡◌, List, [], ◌∷◌, length, get_or, Bool, Result, Ok, Err}
 use Rattle.bitset.specs.Sets.{one_if}
 use Rattle.plan.specs.Asked.{Asked}
-use Rattle.plan.specs.Bytes.{plan_checks, outcome_of_reading, reading}
-use Rattle.plan.specs.declared.Reading.{Reading}
+use Rattle.plan.specs.Bytes.{plan_checks, reading}
+use Rattle.plan.specs.declared.Counts.{Counts}
+use Rattle.refusals.specs.Named.{outcome_of}
+use Rattle.refusals.specs.declared.Refusal.{Refusal}
 use Rattle.lookahead.specs.declared.Evidence.{Evidence}
-use Rattle.claim.specs.declared.Checked.{Checked}
-use Rattle.claim.specs.Checking.{Checks, outcome_of_checked}
-use Rattle.prepare.specs.declared.Prepared.{Prepared}
-use Rattle.prepare.specs.declared.Prepared.TheVariants.{Ready, Refused, Unpredictable}
-use Rattle.prepare.specs.Preparing.{Prepares, CountsTo, outcome_of_prepared, as_number}
-use Rattle.filing.specs.declared.Writing.{Writing}
-use Rattle.filing.specs.Writing.{Writes, outcome_of_writing}
-use Rattle.needs.specs.declared.Needs.{Needs}
-use Rattle.needs.specs.Needs.{NeedsOf, outcome_of_needs}
-use Rattle.pages.specs.declared.Page.{Page}
-use Rattle.pages.specs.Paging.{PageOf, outcome_of_page}
+use Rattle.claim.specs.Checking.{Checks}
+use Rattle.prepare.specs.declared.Unprepared.TheVariants.{Refused, Unpredictable}
+use Rattle.prepare.specs.Preparing.{Prepared, Prepares, CountsTo, outcome_of_prepared, as_number}
+use Rattle.filing.specs.Writing.{Writes}
+use Rattle.needs.specs.Needs.{NeedsOf}
+use Rattle.pages.specs.Paging.{PageOf}
 use Rattle.numbers.specs.Numbers.{Numbers, valued, in_numbers, Passed, PassesOn}
 
 -- THE NUMBERS OF EACH OUTCOME
 
 -- n; m, p and e.
-abbrev pub of_reading : Reading → Numbers
-of_reading a = in_numbers (λ c. valued c.n (c.m ∷ c.p ∷ c.e ∷ [])) (outcome_of_reading a)
+abbrev pub of_reading : Result Counts Refusal → Numbers
+of_reading a = in_numbers (λ c. valued c.n (c.m ∷ c.p ∷ c.e ∷ [])) (outcome_of a)
 
 -- k; under 15 the evidence.
 abbrev pub evidence_of : Prepared → List ℕ
-evidence_of (Ready k) = []
-evidence_of (Refused r) = []
-evidence_of (Unpredictable e) = e.state ∷ e.letter ∷ e.low ∷ e.high ∷ e.stem ∷ e.cycle ∷ []
+evidence_of (Ok k) = []
+evidence_of (Err (Refused r)) = []
+evidence_of (Err (Unpredictable e)) = e.state ∷ e.letter ∷ e.low ∷ e.high ∷ e.stem ∷ e.cycle ∷ []
 
 abbrev pub of_prepared : Prepared → Numbers
 of_prepared a = valued (as_number (outcome_of_prepared a)) (evidence_of a)
 
 -- 1 for yes, 0 for no.
-abbrev pub of_checked : Checked → Numbers
-of_checked a = in_numbers (λ yes. valued (one_if yes) []) (outcome_of_checked a)
+abbrev pub of_checked : Result Bool Refusal → Numbers
+of_checked a = in_numbers (λ yes. valued (one_if yes) []) (outcome_of a)
 
--- How many bytes.
-abbrev pub of_writing : Writing → Numbers
-of_writing a = in_numbers (λ count. valued count []) (outcome_of_writing a)
-
--- How many needs.
-abbrev pub of_needs : Needs → Numbers
-of_needs a = in_numbers (λ count. valued count []) (outcome_of_needs a)
+-- How many bytes; how many needs.
+abbrev pub of_count : Result ℕ Refusal → Numbers
+of_count a = in_numbers (λ count. valued count []) (outcome_of a)
 
 -- 0; how many bytes a page has, since they may be more than 65,535.
-abbrev pub of_page : Page → Numbers
-of_page a = in_numbers (λ count. valued 0 (count ∷ [])) (outcome_of_page a)
+abbrev pub of_page : Result ℕ Refusal → Numbers
+of_page a = in_numbers (λ count. valued 0 (count ∷ [])) (outcome_of a)
 
 -- THE PROMISES
 
 abbrev pub PassesReading : List ℕ → ℕ → List ℕ → List ℕ → Type 0
-PassesReading plan r old counts = PassesOn of_reading 3 (plan_checks plan) (λ a. outcome_of_reading a ≡ reading plan) Unit r old counts
+PassesReading plan r old counts = PassesOn of_reading 3 (plan_checks plan) (λ a. outcome_of a ≡ reading plan) Unit r old counts
 
 abbrev pub PassesPrepared : Asked → ℕ → List ℕ → List ℕ → List ℕ → List ℕ → List ℕ → List ℕ → Type 0
 PassesPrepared A r old table old' letters old'' evidence =
@@ -77,20 +70,20 @@ claim_of claim = record {
 
 -- .. and fewer than six numbers are never a yes.
 pub record PassesCheck (A : Asked) (claim letters : List ℕ) (r : ℕ) : Type 0 where
-  pub answer : Checked
+  pub answer : Result Bool Refusal
   pub meets : Checks A (claim_of claim) letters answer
   pub passed : Passed (of_checked answer) r [] []
   pub short : length claim < 6 → ¬ (r ≡ 1)
 
 pub record PassesWriting (plan : List ℕ) (r : ℕ) (old out : List ℕ) : Type 0 where
-  pub answer : Writing
+  pub answer : Result ℕ Refusal
   pub meets : Writes plan answer old out
-  pub passed : Passed (of_writing answer) r [] []
+  pub passed : Passed (of_count answer) r [] []
 
 pub record PassesNeeds (A : Asked) (r : ℕ) (old needs : List ℕ) : Type 0 where
-  pub answer : Needs
+  pub answer : Result ℕ Refusal
   pub meets : NeedsOf A answer old needs
-  pub passed : Passed (of_needs answer) r [] []
+  pub passed : Passed (of_count answer) r [] []
 
 abbrev pub PassesPage : Asked → ℕ → List ℕ → List ℕ → List ℕ → List ℕ → Type 0
 PassesPage A r old out old' count = PassesOn of_page 1 A.checks (λ a. PageOf A a old out) (out ≡ old) r old' count

@@ -3,41 +3,31 @@
 // most that a call may have to put there, the call is refused with 9 before anything is written.
 #![tactic(auto)]
 
-ghost use Rattle.std.specs.Prelude.{◌≡◌, ◌≤◌, length, get_or};
+ghost use Rattle.std.specs.Prelude.{◌≡◌, ◌^◌, ◌<◌, ◌≤◌, true, [], ◌∷◌, ◌++◌, length, IfOk};
+ghost use Rattle.refusals.specs.Checks.{first_of, short};
+ghost use Rattle.refusals.specs.Named.{number_of};
 ghost use Rattle.plan.specs.Bytes.{asked_checks, asked};
 ghost use Rattle.prepare.specs.Preparing.{Draws};
-ghost use Rattle.numbers.specs.Numbers.{Passed, no_room};
+ghost use Rattle.numbers.specs.Numbers.{Passed};
 ghost use Rattle.plan_calls.specs.Promises.{of_prepared, claim_of, PassesReading, PassesPrepared, PassesCount, PassesCheck};
 ghost use Rattle.plan_calls.specs.Promises.{PassesWriting, PassesNeeds, PassesPage};
-ghost use Rattle.plan_calls.specs.inner.Sizes.{Fit32};
 
-use claim::Checked;
-use filing::Writing;
 use lookahead::Evidence;
-use needs::Needs;
-use numbers::REFUSED;
-use pages::Page;
-use plan::{Loaded, Reading};
-use prepare::Prepared;
+use numbers::refused;
+use prepare::{Prepared, Unprepared};
+use refusals::Refusal;
 
 // Room for the numbers of evidence.
 const EVIDENCE: usize = 6;
 
-// A call on plan bytes that has no room for its further values: the refusal of what is asked, or 9.
-fn no_room(plan: &[u8], party: u32) -> u32
-    ensures { result ≡ no_room (asked_checks plan.now party) }
+// What a call on plan bytes is refused for that has no room for its further values: the refusal of what is asked, or 9.
+fn no_room(plan: &[u8], party: u32) -> Refusal
+    ensures { number_of result ≡ first_of (asked_checks plan.now party ++ (short true ∷ [])) }
 {
     let mut sets = [0u64; semiautomata::MAX_SETS];
-    let loaded = plan::load(plan, party, &mut sets);
-    match loaded {
-        Loaded::Refused(r) => REFUSED + r as u32,
-        Loaded::Plan {
-            n: _,
-            m: _,
-            p: _,
-            e: _,
-            starts: _,
-        } => REFUSED + 9,
+    match plan::load(plan, party, &mut sets) {
+        Ok(_) => Refusal::Room,
+        Err(r) => r,
     }
 }
 
@@ -46,32 +36,31 @@ pub fn read(plan: &[u8], counts: &mut [u32]) -> u32
     ensures { PassesReading plan.now result counts.old counts.new }
 {
     if counts.len() < 3 {
-        return no_room(plan, 0);
+        return refused(no_room(plan, 0));
     }
-    let reading = plan::read(plan);
-    match reading {
-        Reading::Refused(r) => REFUSED + r as u32,
-        Reading::Counts { n, m, p, e } => {
-            slices::copy_32(counts, &[m as u32, p as u32, e as u32]);
-            n as u32
+    match plan::read(plan) {
+        Ok(c) => {
+            slices::copy(counts, &[u32::from(c.m), u32::from(c.p), u32::from(c.e)]);
+            u32::from(c.n)
         }
+        Err(r) => refused(r),
     }
 }
 
 // What preparing and the count call answer, in numbers.
 fn pass_prepared(prepared: Prepared, evidence: &mut [u32]) -> u32
-    requires { Fit32 prepared × (6 ≤ length evidence.old) }
+    requires { IfOk prepared (λ k. k < 2 ^ 32) × (6 ≤ length evidence.old) }
     ensures { Passed (of_prepared prepared) result evidence.old evidence.new }
 {
     match prepared {
-        Prepared::Ready(k) => k as u32,
-        Prepared::Refused(r) => REFUSED + r as u32,
-        Prepared::Unpredictable(e) => {
-            slices::copy_32(
+        Ok(k) => k as u32,
+        Err(Unprepared::Refused(r)) => refused(r),
+        Err(Unprepared::Unpredictable(e)) => {
+            slices::copy(
                 evidence,
                 &[e.state, e.letter, e.low, e.high, e.stem, e.cycle],
             );
-            REFUSED + 15
+            refused(Refusal::Unpredictable)
         }
     }
 }
@@ -88,10 +77,9 @@ pub fn prepare(
         letters.new evidence.old evidence.new }
 {
     if evidence.len() < EVIDENCE {
-        return no_room(plan, party);
+        return refused(no_room(plan, party));
     }
-    let prepared = prepare::prepare(plan, party, table, letters);
-    pass_prepared(prepared, evidence)
+    pass_prepared(prepare::prepare(plan, party, table, letters), evidence)
 }
 
 // The count call, which answers as preparing does.
@@ -100,10 +88,9 @@ pub fn look_ahead(plan: &[u8], party: u32, letters: &mut [u8], evidence: &mut [u
         evidence.new }
 {
     if evidence.len() < EVIDENCE {
-        return no_room(plan, party);
+        return refused(no_room(plan, party));
     }
-    let counted = prepare::count(plan, party, letters);
-    pass_prepared(counted, evidence)
+    pass_prepared(prepare::count(plan, party, letters), evidence)
 }
 
 // The drawing program's entry: the look-ahead for party 0, or the refusal, with no lent buffer.
@@ -111,32 +98,25 @@ pub fn count(plan: &[u8]) -> u32
     ensures { Draws (asked plan.now 0) result }
 {
     let mut letters = [0u8; semiautomata::MAX_EVIDENCE];
-    let counted = prepare::count(plan, 0, &mut letters);
-    match counted {
-        Prepared::Ready(k) => k as u32,
-        Prepared::Refused(r) => REFUSED + r as u32,
-        Prepared::Unpredictable(_) => REFUSED + 15,
+    match prepare::count(plan, 0, &mut letters) {
+        Ok(k) => k as u32,
+        Err(Unprepared::Refused(r)) => refused(r),
+        Err(Unprepared::Unpredictable(_)) => refused(Refusal::Unpredictable),
     }
 }
 
-// The number at a place of a claim; 0 where it has too few.
-fn number_at(claim: &[u32], i: usize) -> u32
-    ensures { result ≡ get_or claim.now i 0 }
-{
-    if i < claim.len() { claim[i] } else { 0 }
-}
-
-// The claim that six numbers make. Fewer make one with no cycle, which is not true.
+// The claim that six numbers make; what is missing is 0. Fewer make one with no cycle, which is not true.
 fn claim_of(claim: &[u32]) -> Evidence
     ensures { result ≡ claim_of claim.now }
 {
+    let at = |i: usize| claim.get(i).copied().unwrap_or(0);
     Evidence {
-        state: number_at(claim, 0),
-        letter: number_at(claim, 1),
-        low: number_at(claim, 2),
-        high: number_at(claim, 3),
-        stem: number_at(claim, 4),
-        cycle: number_at(claim, 5),
+        state: at(0),
+        letter: at(1),
+        low: at(2),
+        high: at(3),
+        stem: at(4),
+        cycle: at(5),
     }
 }
 
@@ -144,11 +124,9 @@ fn claim_of(claim: &[u32]) -> Evidence
 pub fn check(plan: &[u8], party: u32, claim: &[u32], letters: &[u8]) -> u32
     ensures { PassesCheck (asked plan.now party) claim.now letters.now result }
 {
-    let checked = claim::check(plan, party, claim_of(claim), letters);
-    match checked {
-        Checked::Yes => 1,
-        Checked::No => 0,
-        Checked::Refused(r) => REFUSED + r as u32,
+    match claim::check(plan, party, claim_of(claim), letters) {
+        Ok(yes) => u32::from(yes),
+        Err(r) => refused(r),
     }
 }
 
@@ -156,10 +134,9 @@ pub fn check(plan: &[u8], party: u32, claim: &[u32], letters: &[u8]) -> u32
 pub fn write(plan: &[u8], out: &mut [u8]) -> u32
     ensures { PassesWriting plan.now result out.old out.new }
 {
-    let written = filing::write(plan, out);
-    match written {
-        Writing::Bytes(count) => count as u32,
-        Writing::Refused(r) => REFUSED + r as u32,
+    match filing::write(plan, out) {
+        Ok(bytes) => bytes as u32,
+        Err(r) => refused(r),
     }
 }
 
@@ -167,10 +144,9 @@ pub fn write(plan: &[u8], out: &mut [u8]) -> u32
 pub fn needs(plan: &[u8], party: u32, needs: &mut [u16]) -> u32
     ensures { PassesNeeds (asked plan.now party) result needs.old needs.new }
 {
-    let told = needs::of_plan(plan, party, needs);
-    match told {
-        Needs::Entries(count) => count as u32,
-        Needs::Refused(r) => REFUSED + r as u32,
+    match needs::of_plan(plan, party, needs) {
+        Ok(entries) => entries as u32,
+        Err(r) => refused(r),
     }
 }
 
@@ -179,15 +155,14 @@ pub fn page(plan: &[u8], party: u32, page: &mut [u8], length: &mut [u64]) -> u32
     ensures { PassesPage (asked plan.now party) result page.old page.new length.old
         length.new }
 {
-    if length.len() < 1 {
-        return no_room(plan, party);
+    if length.is_empty() {
+        return refused(no_room(plan, party));
     }
-    let paged = pages::of_plan(plan, party, page);
-    match paged {
-        Page::Bytes(count) => {
-            length[0] = count as u64;
+    match pages::of_plan(plan, party, page) {
+        Ok(bytes) => {
+            length[0] = bytes as u64;
             0
         }
-        Page::Refused(r) => REFUSED + r as u32,
+        Err(r) => refused(r),
     }
 }

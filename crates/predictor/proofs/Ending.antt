@@ -1,25 +1,30 @@
 -- Ending: its refusals, and what it writes; the head of its table is at hand.
 -- Assumes nothing.
-use Prim.Native.Nat.{ℕ, ◌+◌, ◌≤◌}
-use mathlib.Core.Bool.{Bool, true, false, ◌||◌, true≢false}
+use Prim.Native.Nat.{ℕ, ◌+◌, ◌≤◌, ◌<◌}
+use mathlib.Core.Bool.{true, false, ◌||◌}
 use mathlib.Core.Path.{◌≡◌, refl, subst}
-use mathlib.Core.List.{List, ◌++◌}
+use mathlib.Core.List.{List}
 use native.Mathlib.Omega.{arith}
-use lib.ListN.{length, drop}
+use lib.ListN.{length}
 use lib.Dec.{ltb}
-use borrow.Author.Tests.{ltb-false}
+use mathlib.Core.Logic.{◌⊎◌, inl, inr}
+use borrow.Author.Tests.{lt-ltb, le-ltb}
+use Rattle.bitset.proofs.Tests.{or_left, or_right}
 use Rattle.semiautomata.specs.Semiautomaton.{Semiautomaton}
+use Rattle.semiautomata.specs.Means.{means}
+use Rattle.refusals.specs.declared.Refusal.{Refusal}
+use Rattle.refusals.specs.declared.Refusal.TheVariants as refusal
+use Rattle.std.specs.Prelude.{Ok, Err}
 use Rattle.streaming.specs.Streaming.{sound}
-use Rattle.table.specs.Table.{lookahead_of, table_meaning, unfit}
+use Rattle.table.specs.Table.{lookahead_of, table_meaning}
 use Rattle.table.specs.declared.Head.{Head}
 use Rattle.table.proofs.Fitness.{Fitting, fitting_fit}
-use Rattle.table.proofs.Heads.{over, Headed}
+use Rattle.table.specs.Heads.{Heads, Headed}
+use Rattle.table.proofs.Heads.{head_means, head_fits}
 use Rattle.records.specs.Bytes.{held_from, decode, tidy}
 use Rattle.deciding.specs.Deciding.{standing, ListsOpen}
 use Rattle.deciding.proofs.Standing.{standing_some, standing_none}
-use Rattle.predictor.specs.declared.Ended.TheVariants.{Open, Refused}
 use Rattle.predictor.specs.Calls.{end_refusal, Ends}
-use Rattle.predictor.proofs.Tables.{by_table}
 
 module _ (table bytes : List ℕ) (sets : ℕ) where
   -- no refusal applies
@@ -30,45 +35,35 @@ module _ (table bytes : List ℕ) (sets : ℕ) where
   end_0 f e t s = rw (fitting_fit f, e, t, s)
 
 module _ (table bytes old : List ℕ) where
-  pub end_8 : unfit table ≡ true → Ends table bytes (Refused 8) old old
+  pub end_8 : {r : Refusal} → Heads table (Err r) → Ends table bytes (Err r) old old
   unfolding end_refusal
-  end_8 e = (rw e, λ z. omega arith, refl)
+  end_8 (e, is) = (rw (is, e), rw is (λ z. omega arith), refl)
 
   module _ {head : Head} (h : Headed table head) where
-    abbrev short : Bool
-    short = ltb (length bytes) (held_from + head.k) || ltb (length old) head.k
+    few : (length bytes < held_from + head.k) ⊎ ((held_from + head.k ≤ length bytes) × (length old < head.k))
+        → (ltb (length bytes) (held_from + lookahead_of table) || ltb (length old) (lookahead_of table)) ≡ true
+    few (inl e) = or_left _ _ (lt-ltb _ _ (rw h.k_is at e))
+    few (inr e) = or_right _ _ (lt-ltb _ _ (rw h.k_is at e.1))
 
-    pub end_9 : short ≡ true → Ends table bytes (Refused 9) old old
+    pub end_9 : (length bytes < held_from + head.k) ⊎ ((held_from + head.k ≤ length bytes) × (length old < head.k)) → Ends table bytes (Err refusal.Room) old old
     unfolding end_refusal
-    end_9 e = (rw (h.sound, rw h.k_is at e), λ z. omega arith, refl)
+    end_9 e = (rw (h.sound, few e), λ z. omega arith, refl)
 
     -- the buffers are long enough
-    module _ (e : short ≡ false) where
-      pub long : (held_from + head.k ≤ length bytes) × (head.k ≤ length old)
-      long = go (ltb (length bytes) (held_from + head.k)) refl e
-        where
-          go : (t : Bool) → ltb (length bytes) (held_from + head.k) ≡ t → (t || ltb (length old) head.k) ≡ false
-              → (held_from + head.k ≤ length bytes) × (head.k ≤ length old)
-          go true t e = absurd (true≢false e)
-          go false t e = (ltb-false _ _ t, ltb-false _ _ e)
+    module _ (room : held_from + head.k ≤ length bytes) (sets : head.k ≤ length old) {here : ℕ} (at : here ≡ standing (means head.succ) head.k bytes) where
+      enough : (ltb (length bytes) (held_from + lookahead_of table) || ltb (length old) (lookahead_of table)) ≡ false
+      enough = rw (← h.k_is, le-ltb _ _ room, le-ltb _ _ sets)
 
-      module _ {here : ℕ} (at : here ≡ standing (over table head head.starts) head.k bytes) where
-        abbrev S : Semiautomaton
-        S = table_meaning table
+      pub end_10 : here ≡ 0 → Ends table bytes (Err refusal.Record) old old
+      unfolding end_refusal
+      end_10 z =
+          let d = rw (head_means h, h.k_is) at (standing_none head.succ head.k bytes room at z) in
+          (rw (h.sound, enough, d), λ z. omega arith, refl)
 
-        same : (head.k ≡ lookahead_of table) × (here ≡ standing S (lookahead_of table) bytes)
-        same = (h.k_is, rw h.k_is at (subst (λ (S : Semiautomaton). here ≡ standing S head.k bytes) h.means at))
-
-        pub end_10 : here ≡ 0 → Ends table bytes (Refused 10) old old
-        unfolding end_refusal
-        end_10 z =
-            let d = standing_none (by_table h.fits) (lookahead_of table) bytes (rw h.k_is at long.0) same.1 z in
-            (rw (h.sound, rw h.k_is at e, d), λ z. omega arith, refl)
-
-        pub end_on : ¬ (here ≡ 0) → {count : ℕ} {out : List ℕ} → ListsOpen (over table head head.starts) head.k bytes count old out
-            → Ends table bytes (Open count) old out
-        end_on n {count} {out} r =
-            let s = standing_some (by_table h.fits) (lookahead_of table) bytes (rw h.k_is at long.0) same.1 n in (
-              end_0 table bytes (length old) h.fits (rw h.k_is at e) s.tidied s.is_sound,
-              rw h.k_is at (subst (λ (S : Semiautomaton). ListsOpen S head.k bytes count old out) h.means r),
-            )
+      pub end_on : ¬ (here ≡ 0) → {count : ℕ} {out : List ℕ} → ListsOpen (means head.succ) head.k bytes count old out
+          → Ends table bytes (Ok count) old out
+      end_on n {count} {out} r =
+          let s = standing_some head.succ head.k bytes room at n in (
+            end_0 table bytes (length old) (head_fits h) enough (rw h.k_is at s.tidied) (rw (head_means h, h.k_is) at s.is_sound),
+            subst (λ (S : Semiautomaton). ListsOpen S (lookahead_of table) bytes count old out) (head_means h) (rw h.k_is at r),
+          )

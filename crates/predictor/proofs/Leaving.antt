@@ -1,7 +1,7 @@
 -- What an answer to a letter, and to opening, leaves of the bytes; and that a letter is taken only into bytes that are ready for it.
 -- Assumes nothing.
-use Prim.Native.Nat.{ℕ, suc, ◌-◌, ◌≤◌}
-use mathlib.Core.Bool.{Bool, true, false, cond, true≢false, false≢true}
+use Prim.Native.Nat.{ℕ, suc, ◌-◌, ◌≤◌, ◌<◌}
+use mathlib.Core.Bool.{Bool, true, false, cond, true≢false}
 use mathlib.Core.Path.{◌≡◌, refl, sym, ap}
 use mathlib.Core.List.{List, [], ◌∷◌, ◌++◌}
 use native.Mathlib.Omega.{arith}
@@ -11,14 +11,17 @@ use Rattle.bitset.proofs.Tests.{and_out}
 use Rattle.semiautomata.specs.Semiautomaton.{Semiautomaton}
 use Rattle.refusals.specs.Checks.{Check}
 use Rattle.refusals.proofs.First.{Passed}
-use Rattle.streaming.specs.Calls.{Reply, refused, resolved, nothing, Result, checked}
+use Rattle.streaming.specs.Calls.{Reply, refused, Result, checked}
 use Rattle.streaming.specs.Streaming.{Rec, latest, settle, after, unopened, open_checks, opened, settled_by}
-use Rattle.records.specs.Bytes.{decode}
+use Rattle.std.specs.Prelude.{Option, None, Some, Ok}
+use Rattle.streaming.specs.PlainWalk.{limit}
+use Rattle.records.specs.Bytes.{decode, tidy}
 use Rattle.records.specs.Taking.{taken_into, started_into}
-use Rattle.deciding.specs.Replies.{is_refusal}
+use Rattle.deciding.specs.declared.Resolution.{Resolution}
+use Rattle.deciding.specs.Replies.{said, is_refusal}
 use Rattle.deciding.specs.Deciding.{decision_checks, decision}
 use Rattle.predictor.specs.Calls.{written, onto}
-use Rattle.predictor.specs.inner.Parts.{last_after, fed_into, opened_into, Ready}
+use Rattle.predictor.specs.inner.Parts.{last_after}
 
 -- a call with refusals leaves what its reply leaves, and one that is not refused has passed them all
 module _ {A : Type 0} (state : A) (left : Reply → A) (h : (number : ℕ) → left (refused number) ≡ state) (v : Reply) where
@@ -45,6 +48,10 @@ module _ {A : Type 0} (state : A) (left : Reply → A) (h : (number : ℕ) → l
 
 -- A LETTER
 
+-- what its reply leaves of the bytes
+abbrev pub fed_into : ℕ → List ℕ → ℕ → Reply → List ℕ
+fed_into k bytes a reply = written k bytes (after k (decode bytes) (suc (decode bytes).fed) ((decode bytes).held ++ (a ∷ [])) reply) reply
+
 module _ (S : Semiautomaton) (k : ℕ) (bytes : List ℕ) (a : ℕ) where
   abbrev settling : Reply
   settling = (settled_by S k (decode bytes) a).reply
@@ -53,49 +60,43 @@ module _ (S : Semiautomaton) (k : ℕ) (bytes : List ℕ) (a : ℕ) where
   left = after k (decode bytes) (suc (decode bytes).fed) ((decode bytes).held ++ (a ∷ []))
 
   pub judged_state : (onto k bytes (decision S k bytes a)).state ≡ fed_into k bytes a (decision S k bytes a).reply
-  unfolding decision fed_into
+  unfolding decision
   judged_state =
       ap (λ (r : Rec). written k bytes r (decision S k bytes a).reply)
       (checked_state (decode bytes) left (λ _. refl) settling (decision_checks S k bytes a))
 
-  pub judged_ready : S.m ≤ 32 → {reply : Reply} → reply ≡ (decision S k bytes a).reply → Ready k bytes a reply
+  -- it is taken only into a tidy record that is not full, and only if it is a byte
+  pub judged_ready : S.m ≤ 32 → (o : Option Resolution) → said (Ok o) ≡ (decision S k bytes a).reply
+      → (tidy k bytes ≡ true) × ((decode bytes).fed < limit) × (a < 256)
   unfolding decision
-  judged_ready few is e =
-      let (t, (l, (m, _))) = checked_passed (decode bytes) left (λ _. refl) settling (decision_checks S k bytes a) (rw is at e) in
+  judged_ready few o is =
+      let (t, (l, (m, _))) = checked_passed (decode bytes) left (λ _. refl) settling (decision_checks S k bytes a) (rw is at (unrefused o)) in
       ((and_out _ _ (not-false _ t)).0, leb-false _ _ l, omega (arith, leb-false S.m a m))
+    where
+      unrefused : (o : Option Resolution) → is_refusal (said (Ok o)) ≡ false
+      unrefused (Some r) = refl
+      unrefused None = refl
 
--- a refusal keeps the bytes
-pub fed_kept : (k : ℕ) (bytes : List ℕ) (a : ℕ) (reply : Reply) → is_refusal reply ≡ true → bytes ≡ fed_into k bytes a reply
-unfolding fed_into
-fed_kept k bytes a (refused number) e = refl
-fed_kept k bytes a (resolved i x) e = absurd (false≢true e)
-fed_kept k bytes a nothing e = absurd (false≢true e)
-
-pub fed_taken : (k : ℕ) (bytes : List ℕ) (a : ℕ) (reply : Reply) → is_refusal reply ≡ false
-    → taken_into k bytes a (last_after reply (decode bytes).last) ≡ fed_into k bytes a reply
-unfolding fed_into taken_into
-fed_taken k bytes a (refused number) e = absurd (true≢false e)
-fed_taken k bytes a (resolved i x) e = refl
-fed_taken k bytes a nothing e = refl
+pub fed_taken : (k : ℕ) (bytes : List ℕ) (a : ℕ) (o : Option Resolution)
+    → taken_into k bytes a (last_after o (decode bytes).last) ≡ fed_into k bytes a (said (Ok o))
+unfolding taken_into
+fed_taken k bytes a (Some r) = refl
+fed_taken k bytes a None = refl
 
 -- OPENING
 
-pub opened_kept : (k : ℕ) (bytes : List ℕ) (reply : Reply) → is_refusal reply ≡ true → bytes ≡ opened_into k bytes reply
-unfolding opened_into
-opened_kept k bytes (refused number) e = refl
-opened_kept k bytes (resolved i x) e = absurd (false≢true e)
-opened_kept k bytes nothing e = absurd (false≢true e)
-
-pub opened_taken : (k : ℕ) (bytes : List ℕ) (reply : Reply) → is_refusal reply ≡ false
-    → started_into k bytes (last_after reply 255) ≡ opened_into k bytes reply
-unfolding opened_into started_into
-opened_taken k bytes (refused number) e = absurd (true≢false e)
-opened_taken k bytes (resolved i x) e = let none : latest k [] ≡ [] = drop-nil (0 - k) in rw none
-opened_taken k bytes nothing e = let none : latest k [] ≡ [] = drop-nil (0 - k) in rw none
+abbrev pub opened_into : ℕ → List ℕ → Reply → List ℕ
+opened_into k bytes reply = written k bytes (after k unopened 0 [] reply) reply
 
 module _ (S : Semiautomaton) (k : ℕ) where
   pub opened_state : (bytes : List ℕ) → (onto k bytes (opened S k)).state ≡ opened_into k bytes (opened S k).reply
-  unfolding opened opened_into
+  unfolding opened
   opened_state bytes =
       ap (λ (r : Rec). written k bytes r (opened S k).reply)
       (checked_state unopened (after k unopened 0 []) (λ _. refl) (settle S k S.initial 0 []) (open_checks S))
+
+pub opened_taken : (k : ℕ) (bytes : List ℕ) (o : Option Resolution)
+    → started_into k bytes (last_after o 255) ≡ opened_into k bytes (said (Ok o))
+unfolding started_into
+opened_taken k bytes (Some r) = let none : latest k [] ≡ [] = drop-nil (0 - k) in rw none
+opened_taken k bytes None = let none : latest k [] ≡ [] = drop-nil (0 - k) in rw none

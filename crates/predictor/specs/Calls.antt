@@ -2,18 +2,17 @@
 -- crates/streaming/specs/Streaming on what the bytes hold.
 -- Assumes nothing.
 use Rattle.std.specs.Prelude.{ℕ, ◌+◌, ◌||◌, ◌≡◌, List, [], ◌∷◌, ◌++◌, ltb, length, drop}
+use Rattle.std.specs.Prelude as prelude
 use Rattle.streaming.specs.Calls.{Reply, refused, resolved, nothing, Result, checked}
 use Rattle.refusals.specs.Checks.{Check, first_of, short}
-use Rattle.refusals.specs.Outcomes.{Outcome, answered, Gives}
-use Rattle.refusals.specs.Outcomes as outcomes
+use Rattle.refusals.specs.Outcomes.{Gives}
+use Rattle.refusals.specs.Named.{outcome_of}
+use Rattle.refusals.specs.declared.Refusal.{Refusal}
 use Rattle.streaming.specs.Streaming.{Rec, unopened, open_checks, settled, settled_by}
 use Rattle.table.specs.Table.{lookahead_of, table_meaning, table_check}
 use Rattle.records.specs.Bytes.{held_from, decode, encode}
-use Rattle.deciding.specs.declared.Answer.{Answer}
-use Rattle.deciding.specs.Replies.{said}
+use Rattle.deciding.specs.Replies.{Answer, said}
 use Rattle.deciding.specs.Deciding.{bytes_check, decision_checks, open_sets, ListsOpen}
-use Rattle.predictor.specs.declared.Ended.{Ended}
-use Rattle.predictor.specs.declared.Ended.TheVariants.{Open, Refused}
 
 -- 9, of the record: fewer than 8 + k bytes.
 abbrev pub record_check : List ℕ → List ℕ → Check
@@ -70,13 +69,8 @@ end_refusal table bytes sets = first_of (end_checks table bytes sets)
 abbrev pub ended : List ℕ → List ℕ → List ℕ
 ended table bytes = open_sets (table_meaning table) (lookahead_of table) bytes
 
--- What ending answers: how many they are.
-abbrev pub outcome_of_ended : Ended → Outcome ℕ
-outcome_of_ended (Open c) = answered c
-outcome_of_ended (Refused r) = outcomes.refused r
-
--- What ending gives; a refusal writes nothing.
-abbrev pub Ends : List ℕ → List ℕ → Ended → List ℕ → List ℕ → Type 0
+-- What ending gives: how many they are; a refusal writes nothing.
+abbrev pub Ends : List ℕ → List ℕ → prelude.Result ℕ Refusal → List ℕ → List ℕ → Type 0
 Ends table bytes a old out =
     Gives (end_refusal table bytes (length old)) (out ≡ old)
-    (λ c. ListsOpen (table_meaning table) (lookahead_of table) bytes c old out) (outcome_of_ended a)
+    (λ c. ListsOpen (table_meaning table) (lookahead_of table) bytes c old out) (outcome_of a)

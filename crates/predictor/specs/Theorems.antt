@@ -6,8 +6,7 @@ use Rattle.refusals.specs.Checks.{first_of}
 use Rattle.streaming.specs.Streaming.{opened, feed, Undecided, UndecidedBy}
 use Rattle.table.specs.Table.{lookahead_of, table_meaning, unfit}
 use Rattle.records.specs.Bytes.{held_from, decode, tidy}
-use Rattle.deciding.specs.declared.Answer.{Answer}
-use Rattle.deciding.specs.Replies.{said}
+use Rattle.deciding.specs.Replies.{Answer, said}
 use Rattle.predictor.specs.Calls.{opening_checks, letter_checks, onto, opened_on, fed_on, Opens, Feeds}
 
 pub record Theorems (table bytes : List ℕ) : Type 0 where

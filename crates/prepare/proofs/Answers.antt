@@ -9,16 +9,13 @@ use native.Mathlib.Omega.{arith}
 use lib.ListN.{length}
 use Rattle.semiautomata.specs.Semiautomaton.{Semiautomaton}
 use Rattle.semiautomata.specs.Predictability.{Lookahead}
-use Rattle.semiautomata.specs.Successors.{successors}
 use Rattle.semiautomata.proofs.Bound.{lookahead_bound}
 use Rattle.semiautomata.specs.Sizes.{Sized}
 use Rattle.plan.specs.Asked.{Asked, refusal_of, refusal_with, Passes, Proper}
-use Rattle.plan.specs.Loading.{Holds}
 use Rattle.table.specs.Table.{contents, laid_out}
 use Rattle.table.proofs.Form.{Reads, form_reads}
-use Rattle.prepare.specs.declared.Prepared.{Prepared}
-use Rattle.prepare.specs.Preparing.{short_table, short_letters, Prepares, CountsTo}
-use Rattle.prepare.specs.inner.Steps.{Held, unchecked}
+use Rattle.prepare.specs.Preparing.{Prepared, short_table, short_letters, Prepares, CountsTo}
+use Rattle.prepare.specs.inner.Steps.{unchecked}
 use Rattle.plan.proofs.Asked.{refused_passing}
 use Rattle.prepare.proofs.Refusals.{square}
 
@@ -34,35 +31,30 @@ small {S} z k a = omega (arith, lookahead_bound S z.within k a, square z.n_high,
     less : (n : ℕ) → n * (n - 1) ≤ n * n
     less n = mul-le-mul_left n (omega arith)
 
-module _ {n m starts : ℕ} {sets : List ℕ} (h : Held n m starts sets) where
-  -- nothing is checked
-  pub held_proper : Proper (unchecked (successors n m starts sets))
+-- nothing is checked
+module _ {S : Semiautomaton} (z : Sized S) where
+  pub unchecked_proper : Proper (unchecked S)
   unfolding refusal_of
-  held_proper = record { numbered = refl; other = λ e. omega arith; sized = λ _. h.sized }
+  unchecked_proper = record { numbered = refl; other = λ e. omega arith; sized = λ _. z }
 
-  pub held_passes : Passes (unchecked (successors n m starts sets))
+  pub unchecked_passes : Passes (unchecked S)
   unfolding refusal_of
-  held_passes = refl
+  unchecked_passes = refl
 
--- where no check applies, what holds of the numbers loaded holds of what is asked
-module _ (A : Asked) (P : Proper A) (w : Passes A) {n m starts : ℕ} {sets : List ℕ} (h : Holds A.means n m starts sets) where
-  pub is_held : Held n m starts sets
-  is_held = record { fit = h.fit; starts_fit = h.starts_fit; sized = rw h.means (P.sized w) }
-
+-- where no check applies, what holds of the plan loaded holds of what is asked
+module _ (A : Asked) (P : Proper A) (w : Passes A) {S : Semiautomaton} (m : S ≡ A.means) where
   -- 9 is all that is left
   left : (b : Bool) → refusal_with A b ≡ refusal_with (unchecked A.means) b
   unfolding refusal_with
   left b = refused_passing A P w b
 
-  pub counts_asked : (a : Prepared) (old letters : List ℕ) → CountsTo (unchecked (successors n m starts sets)) a old letters
-      → CountsTo A a old letters
+  pub counts_asked : (a : Prepared) (old letters : List ℕ) → CountsTo (unchecked S) a old letters → CountsTo A a old letters
   counts_asked a old letters c =
-      let d = subst (λ (S : Semiautomaton). CountsTo (unchecked S) a old letters) h.means c in
+      let d = subst (λ (S : Semiautomaton). CountsTo (unchecked S) a old letters) m c in
       rw (left (short_letters A.means (length old))) d
 
-  pub prepares_asked : (a : Prepared) (old table old' letters : List ℕ)
-      → Prepares (unchecked (successors n m starts sets)) a old table old' letters
+  pub prepares_asked : (a : Prepared) (old table old' letters : List ℕ) → Prepares (unchecked S) a old table old' letters
       → Prepares A a old table old' letters
   prepares_asked a old table old' letters c =
-      let d = subst (λ (S : Semiautomaton). Prepares (unchecked S) a old table old' letters) h.means c in
+      let d = subst (λ (S : Semiautomaton). Prepares (unchecked S) a old table old' letters) m c in
       rw (left (short_table A.means (length old) || short_letters A.means (length old'))) d

@@ -2,10 +2,11 @@
 -- Assumes nothing.
 use Prim.Native.Nat.{ℕ, ◌+◌, ◌*◌, ◌≤◌}
 use native.Mathlib.Omega.{arith}
-use mathlib.Core.Bool.{false≢true}
+use mathlib.Core.Bool.{Bool, true, false, false≢true}
 use mathlib.Core.Path.{◌≡◌, refl, ◌∙◌, ap}
 use mathlib.Core.Logic.{inl, inr}
 use mathlib.Core.List.{List}
+use Rattle.std.specs.Prelude.{Result, Ok, Err}
 use lib.ListN.{length}
 use Rattle.semiautomata.proofs.Shares.{lookahead_unique, lookahead_predicts}
 use Rattle.semiautomata.proofs.Wide.{never_more, wide_missing, trim_lookahead, trim_unpredictable}
@@ -14,48 +15,47 @@ use Rattle.semiautomata.proofs.Waiting.{none_for_nothing, least_wait, endless_do
 use Rattle.semiautomata.specs.Semiautomaton.{Semiautomaton}
 use Rattle.semiautomata.specs.Predictability.{Lookahead}
 use Rattle.refusals.specs.Outcomes.{answered}
+use Rattle.refusals.specs.declared.Refusal.{Refusal}
 use Rattle.plan.specs.Asked.{Asked, Passes, Proper}
 use Rattle.table.specs.Table.{sets_from, contents}
 use Rattle.table.proofs.Form.{Reads, reads_contents}
 use Rattle.lookahead.specs.declared.Evidence.{Evidence}
-use Rattle.prepare.specs.declared.Prepared.TheVariants as prepared
-use Rattle.claim.specs.declared.Checked.{Checked}
-use Rattle.claim.specs.declared.Checked.TheVariants.{Yes, No, Refused}
-use Rattle.prepare.specs.Preparing.{Shown, Prepares, CountsTo}
-use Rattle.prepare.specs.declared.Prepared.{Prepared}
+use Rattle.prepare.specs.declared.Unprepared.TheVariants.{Refused, Unpredictable}
+use Rattle.prepare.specs.Preparing.{Prepared, Shown, Prepares, CountsTo}
 use Rattle.claim.specs.Checking.{Checks}
 use Rattle.prepare.specs.Theorems.{EitherCall, Right, Theorems, Met}
 use Rattle.prepare.proofs.Answers.{sized_reads}
 use Rattle.prepare.proofs.Promises.{shown_never, count_refused_so, count_never_so, prepare_refused_so, prepare_never_so}
 use Rattle.plan.proofs.Asked.{clear_passes}
+use Rattle.plan.proofs.Refusals.{number_some}
 use Rattle.prepare.proofs.Refusals.{count_clear, prepare_clear}
 
 module _ (A : Asked) (P : Proper A) where
   -- what an answer tells, whichever call gave it
   module _ {old letters : List ℕ} where
-    ready : {k : ℕ} → EitherCall A (prepared.Ready k) old letters → Passes A × Lookahead A.means k
+    ready : {k : ℕ} → EitherCall A (Ok k) old letters → Passes A × Lookahead A.means k
     ready (inl ((p, a), _)) = (clear_passes A P _ p, a)
     ready (inr (_, _, ((p, a), _, _))) = (clear_passes A P _ p, a)
 
-    pub never : {e : Evidence} → EitherCall A (prepared.Unpredictable e) old letters → Passes A × Shown A.means e old letters
+    pub never : {e : Evidence} → EitherCall A (Err (Unpredictable e)) old letters → Passes A × Shown A.means e old letters
     never (inl c) = let (p, s) = count_never_so A P c in (clear_passes A P _ p, s)
     never (inr (_, _, c)) = let (p, s, _) = prepare_never_so A P c in (clear_passes A P _ p, s)
 
-  passes : (e : Evidence) (old letters : List ℕ) → EitherCall A (prepared.Unpredictable e) old letters → (r : Checked)
-      → Checks A e letters r → r ≡ Yes
-  passes e old letters s (Refused r) (a, n, _) = absurd (n (a ∙ (never s).0))
-  passes e old letters s Yes _ = refl
-  passes e old letters s No (_, (_, n)) = absurd (false≢true (n (never s).1.claimed))
+  passes : (e : Evidence) (old letters : List ℕ) → EitherCall A (Err (Unpredictable e)) old letters → (r : Result Bool Refusal)
+      → Checks A e letters r → r ≡ Ok true
+  passes e old letters s (Err r) (a, n, _) = absurd (n (a ∙ (never s).0))
+  passes e old letters s (Ok true) _ = refl
+  passes e old letters s (Ok false) (_, (_, n)) = absurd (false≢true (n (never s).1.claimed))
 
   -- an answer that is no refusal is right
-  right : (a : Prepared) (old letters : List ℕ) → ((r : ℕ) → ¬ (a ≡ prepared.Refused r)) → EitherCall A a old letters → Right A.means a
-  right (prepared.Refused r) old letters n c = absurd (n r refl)
-  right (prepared.Ready j) old letters n c =
+  right : (a : Prepared) (old letters : List ℕ) → ((r : Refusal) → ¬ (a ≡ Err (Refused r))) → EitherCall A a old letters → Right A.means a
+  right (Err (Refused r)) old letters n c = absurd (n r refl)
+  right (Ok j) old letters n c =
       let l = (ready c).1 in record {
         ready = λ k. (λ e. let f : j ≡ k = cc in rw f at l, λ h. ap (λ (i : ℕ). answered i) (lookahead_unique l h));
         never = (λ e. let z : ◌≡◌ {A = ℕ} 0 1 = cc in absurd (omega arith), λ u. absurd (lookahead_predicts l u));
       }
-  right (prepared.Unpredictable x) old letters n c =
+  right (Err (Unpredictable x)) old letters n c =
       let u = shown_never (never c).1 in record {
         ready = λ k. (λ e. let z : ◌≡◌ {A = ℕ} 0 1 = cc in absurd (omega arith), λ h. absurd (lookahead_predicts h u));
         never = (λ _. u, λ _. refl);
@@ -66,19 +66,19 @@ module _ (A : Asked) (P : Proper A) where
     abbrev S : Semiautomaton
     S = A.means
 
-    counts_on : (old letters : List ℕ) → S.n * S.n ≤ length old → CountsTo A a old letters → (r : ℕ) → ¬ (a ≡ prepared.Refused r)
+    counts_on : (old letters : List ℕ) → S.n * S.n ≤ length old → CountsTo A a old letters → (r : Refusal) → ¬ (a ≡ Err (Refused r))
     counts_on old letters g c r e =
-        let (q, n, _) = count_refused_so A P (rw e at c) in
-        n (q ∙ count_clear A P w g)
+        let (q, _) = count_refused_so A P r (rw e at c) in
+        number_some r (q ∙ count_clear A P w g)
 
     prepares_on : (old table old' letters : List ℕ) → sets_from + S.n * S.m ≤ length old → S.n * S.n ≤ length old'
-        → Prepares A a old table old' letters → (r : ℕ) → ¬ (a ≡ prepared.Refused r)
+        → Prepares A a old table old' letters → (r : Refusal) → ¬ (a ≡ Err (Refused r))
     prepares_on old table old' letters f g c r e =
-        let (q, n, _, _) = prepare_refused_so A P (rw e at c) in
-        n (q ∙ prepare_clear A P w _ f g)
+        let (q, _, _) = prepare_refused_so A P r (rw e at c) in
+        number_some r (q ∙ prepare_clear A P w _ f g)
 
   -- the table that preparing leaves
-  pub table_read : {k : ℕ} (old : List ℕ) {table : List ℕ} (old' letters : List ℕ) → Prepares A (prepared.Ready k) old table old' letters
+  pub table_read : {k : ℕ} (old : List ℕ) {table : List ℕ} (old' letters : List ℕ) → Prepares A (Ok k) old table old' letters
       → Reads (contents A.means k) table
   table_read old old' letters ((p, a), t, _) = sized_reads (P.sized (clear_passes A P _ p)) a old t
 

@@ -1,16 +1,17 @@
 -- Preparing and the count call (document 01, The count; Prepared plan): their refusals in order, and what they answer and write.
 -- Assumes nothing.
-use Rattle.std.specs.Prelude.{ℕ, ◌+◌, ◌*◌, Bool, ◌||◌, ◌⊎◌, ◌≡◌, List, ltb, length, drop}
+use Rattle.std.specs.Prelude.{ℕ, ◌+◌, ◌*◌, Bool, ◌||◌, ◌⊎◌, ◌≡◌, List, ltb, length, drop, Result, Ok, Err}
 use Rattle.semiautomata.specs.Semiautomaton.{Semiautomaton}
 use Rattle.semiautomata.specs.Predictability.{Lookahead}
 use Rattle.semiautomata.specs.Predictability as predictability
 use Rattle.refusals.specs.Outcomes.{Outcome, refused, answered, refusing}
+use Rattle.refusals.specs.Named.{number_of}
 use Rattle.plan.specs.Asked.{Asked, refusal_of, refusal_with}
 use Rattle.table.specs.Table.{sets_from, Contents, contents, laid_out}
 use Rattle.lookahead.specs.declared.Evidence.{Evidence}
 use Rattle.lookahead.specs.Answers.{TrueOf}
-use Rattle.prepare.specs.declared.Prepared.{Prepared}
-use Rattle.prepare.specs.declared.Prepared.TheVariants.{Ready, Refused, Unpredictable}
+use Rattle.prepare.specs.declared.Unprepared.{Unprepared}
+use Rattle.prepare.specs.declared.Unprepared.TheVariants.{Refused, Unpredictable}
 
 -- 9: a lent buffer is too short: 4 + n × m numbers for preparing, n × n bytes for the evidence.
 abbrev pub short_table : Semiautomaton → ℕ → Bool
@@ -32,10 +33,13 @@ pub record Shown (S : Semiautomaton) (e : Evidence) (old letters : List ℕ) : T
   pub kept : drop (e.stem + e.cycle) letters ≡ drop (e.stem + e.cycle) old
 
 -- What preparing and the count call answer: k. 15 comes with evidence.
+abbrev pub Prepared : Type 0
+Prepared = Result ℕ Unprepared
+
 abbrev pub outcome_of_prepared : Prepared → Outcome ℕ
-outcome_of_prepared (Ready k) = answered k
-outcome_of_prepared (Refused r) = refused r
-outcome_of_prepared (Unpredictable e) = refused 15
+outcome_of_prepared (Ok k) = answered k
+outcome_of_prepared (Err (Refused r)) = refused (number_of r)
+outcome_of_prepared (Err (Unpredictable e)) = refused 15
 
 -- The look-ahead of S as it is answered where the first refusal before 15 that applies has this number, 0 if none applies: that refusal;
 -- 15 where no k exists; else k.
@@ -45,15 +49,15 @@ LooksAhead refusal S (answered k) = (refusal ≡ 0) × Lookahead S k
 
 -- What is left in the lent letters: the evidence under 15, which never comes without it, and else what stood there.
 abbrev pub LeavesLetters : Semiautomaton → Prepared → List ℕ → List ℕ → Type 0
-LeavesLetters S (Ready k) old letters = letters ≡ old
-LeavesLetters S (Refused r) old letters = ¬ (r ≡ 15) × (letters ≡ old)
-LeavesLetters S (Unpredictable e) old letters = Shown S e old letters
+LeavesLetters S (Ok k) old letters = letters ≡ old
+LeavesLetters S (Err (Refused r)) old letters = ¬ (number_of r ≡ 15) × (letters ≡ old)
+LeavesLetters S (Err (Unpredictable e)) old letters = Shown S e old letters
 
 -- .. and in the lent table: the form of what it is to hold with k, the rest of the buffer as it was; and else what stood there.
 abbrev pub LeavesTable : (ℕ → Contents) → Prepared → List ℕ → List ℕ → Type 0
-LeavesTable holds (Ready k) old table = table ≡ laid_out (holds k) old
-LeavesTable holds (Refused r) old table = table ≡ old
-LeavesTable holds (Unpredictable e) old table = table ≡ old
+LeavesTable holds (Ok k) old table = table ≡ laid_out (holds k) old
+LeavesTable holds (Err (Refused r)) old table = table ≡ old
+LeavesTable holds (Err (Unpredictable e)) old table = table ≡ old
 
 -- What preparing gives.
 abbrev pub Prepares : Asked → Prepared → List ℕ → List ℕ → List ℕ → List ℕ → Type 0

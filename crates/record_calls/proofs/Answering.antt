@@ -1,5 +1,7 @@
 -- The numbers of answers about a record.
 -- Assumes nothing.
+use Rattle.std.specs.Prelude.{Some, None, Ok, Err}
+use Rattle.std.specs.Prelude as prelude
 use Prim.Native.Nat.{ℕ, suc, ◌-◌, ◌≤◌, ◌<◌}
 use mathlib.Core.Bool.{Bool, true, false, cond}
 use mathlib.Core.Option.{Option, some, none}
@@ -20,11 +22,9 @@ use Rattle.streaming.proofs.Calls.{Course, refuses as refuses-by, passes, course
 use Rattle.streaming.proofs.Streaming.{at_sole}
 use Rattle.table.specs.Table.{states_of, lookahead_of, table_meaning, unfit, table_check}
 use Rattle.table.proofs.Fitness.{fitting}
-use Rattle.deciding.specs.declared.Answer.{Answer}
-use Rattle.deciding.specs.declared.Answer.TheVariants as answer
-use Rattle.deciding.specs.Replies.{said}
-use Rattle.predictor.specs.declared.Ended.{Ended}
-use Rattle.predictor.specs.declared.Ended.TheVariants as ended
+use Rattle.deciding.specs.Replies.{Answer, said}
+use Rattle.refusals.specs.Named.{number_of}
+use Rattle.refusals.specs.declared.Refusal.{Refusal}
 use Rattle.deciding.specs.Deciding.{bytes_check}
 use Rattle.predictor.specs.Calls.{record_check, opening_checks, letter_checks, onto, opened_on, fed_on}
 use Rattle.predictor.specs.Calls.{Opens, Feeds, end_checks, end_refusal, Ends}
@@ -36,10 +36,10 @@ use Rattle.record_calls.proofs.Endings.{few_ended}
 
 -- ENDINGS
 
-pub ended_number : (table bytes old out : List ℕ) (a : Ended) → Ends table bytes a old out → Number (of_ended a).first
+pub ended_number : (table bytes old out : List ℕ) (a : prelude.Result ℕ Refusal) → Ends table bytes a old out → Number (of_ended a).first
 unfolding end_refusal
-ended_number table bytes old out (ended.Open c) (e, (is, _)) = let h = few_ended table bytes (length old) e in value (omega arith)
-ended_number table bytes old out (ended.Refused r) (e, z, _) =
+ended_number table bytes old out (Ok c) (e, (is, _)) = let h = few_ended table bytes (length old) e in value (omega arith)
+ended_number table bytes old out (Err r) (e, z, _) =
     refused_number (end_checks table bytes (length old)) refl e z
 
 -- REPLIES
@@ -51,9 +51,9 @@ Small n (resolved i x) = (x < n) × (n ≤ 64)
 Small n nothing = Unit {0}
 
 answer_number : (n : ℕ) (a : Answer) → Small n (said a) → Number (of_answer a).first
-answer_number n (answer.Resolved i x) (l, h) = value (omega arith)
-answer_number n answer.Nothing _ = value (omega arith)
-answer_number n (answer.Refused r) (l, h) = refusal-number r l h refl
+answer_number n (Ok (Some x)) (l, h) = value (omega arith)
+answer_number n (Ok None) _ = value (omega arith)
+answer_number n (Err r) (l, h) = refusal-number (number_of r) l h refl
 
 -- the first check that applies, or what is given where none does
 checked_small : (n : ℕ) (A : Type 0) (cs : List Check) (state : A) (done : Result A) → Numbered last_refusal cs

@@ -1,14 +1,14 @@
 -- What each call on a record promises for C: some answer meets the promise of the call that it stands for, and its numbers are passed on.
 -- Without room for a position: 8 or 9.
 -- Assumes nothing.
-use Rattle.std.specs.Prelude.{ℕ, ◌≡◌, List, [], ◌∷◌}
+use Rattle.std.specs.Prelude.{ℕ, ◌≡◌, List, [], ◌∷◌, Result}
 use Rattle.streaming.specs.Calls.{Reply, refused, resolved, nothing}
 use Rattle.table.specs.Table.{table_check}
-use Rattle.deciding.specs.declared.Answer.{Answer}
-use Rattle.deciding.specs.Replies.{said}
-use Rattle.predictor.specs.declared.Ended.{Ended}
-use Rattle.predictor.specs.Calls.{outcome_of_ended, Opens, Feeds, Ends}
+use Rattle.deciding.specs.Replies.{Answer, said}
+use Rattle.predictor.specs.Calls.{Opens, Feeds, Ends}
+use Rattle.refusals.specs.Named.{outcome_of}
 use Rattle.refusals.specs.Outcomes.{refusing}
+use Rattle.refusals.specs.declared.Refusal.{Refusal}
 use Rattle.numbers.specs.Numbers.{Numbers, valued, in_numbers, Passed, PassesOn}
 
 -- THE NUMBERS OF EACH OUTCOME
@@ -23,8 +23,8 @@ abbrev pub of_answer : Answer → Numbers
 of_answer a = of_reply (said a)
 
 -- How many positions are not booked.
-abbrev pub of_ended : Ended → Numbers
-of_ended a = in_numbers (λ count. valued count []) (outcome_of_ended a)
+abbrev pub of_ended : Result ℕ Refusal → Numbers
+of_ended a = in_numbers (λ count. valued count []) (outcome_of a)
 
 -- THE PROMISES
 
@@ -37,6 +37,6 @@ PassesLetter table letter r old bytes old' position =
     PassesOn of_answer 1 (table_check table ∷ []) (λ a. Feeds table old letter a bytes) (bytes ≡ old) r old' position
 
 pub record PassesEnding (table bytes : List ℕ) (r : ℕ) (old sets : List ℕ) : Type 0 where
-  pub answer : Ended
+  pub answer : Result ℕ Refusal
   pub meets : Ends table bytes answer old sets
   pub passed : Passed (of_ended answer) r [] []

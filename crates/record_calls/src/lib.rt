@@ -7,8 +7,7 @@ ghost use Rattle.numbers.specs.Numbers.{Passed};
 ghost use Rattle.record_calls.specs.Promises.{of_answer, PassesOpening, PassesLetter, PassesEnding};
 
 use deciding::Answer;
-use numbers::REFUSED;
-use predictor::Ended;
+use numbers::refused;
 
 // Room for the position of a resolution.
 const POSITION: usize = 1;
@@ -19,15 +18,12 @@ fn pass_answer(answer: Answer, position: &mut [u32]) -> u32
     ensures { Passed (of_answer answer) result position.old position.new }
 {
     match answer {
-        Answer::Refused(r) => REFUSED + r as u32,
-        Answer::Resolved {
-            position: at,
-            state,
-        } => {
-            position[0] = at;
-            state as u32
+        Ok(Some(resolution)) => {
+            position[0] = resolution.position;
+            u32::from(resolution.state)
         }
-        Answer::Nothing => 255,
+        Ok(None) => 255,
+        Err(r) => refused(r),
     }
 }
 
@@ -37,10 +33,9 @@ pub fn open(table: &[u64], rec: &mut [u8], position: &mut [u32]) -> u32
         position.new }
 {
     if position.len() < POSITION {
-        return table_calls::no_room(table);
+        return refused(table_calls::no_room(table));
     }
-    let answer = predictor::open(table, rec);
-    pass_answer(answer, position)
+    pass_answer(predictor::open(table, rec), position)
 }
 
 // A letter fed, which answers as opening does.
@@ -49,19 +44,17 @@ pub fn feed(table: &[u64], rec: &mut [u8], letter: u32, position: &mut [u32]) ->
         position.new }
 {
     if position.len() < POSITION {
-        return table_calls::no_room(table);
+        return refused(table_calls::no_room(table));
     }
-    let answer = predictor::feed(table, rec, letter);
-    pass_answer(answer, position)
+    pass_answer(predictor::feed(table, rec, letter), position)
 }
 
 // Ending: how many positions are not resolved.
 pub fn finish(table: &[u64], rec: &[u8], sets: &mut [u64]) -> u32
     ensures { PassesEnding table.now rec.now result sets.old sets.new }
 {
-    let ended = predictor::finish(table, rec, sets);
-    match ended {
-        Ended::Open(count) => count as u32,
-        Ended::Refused(r) => REFUSED + r as u32,
+    match predictor::finish(table, rec, sets) {
+        Ok(count) => count as u32,
+        Err(r) => refused(r),
     }
 }

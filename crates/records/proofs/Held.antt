@@ -4,10 +4,10 @@ use Prim.Native.Nat.{ℕ, zero, suc, ◌+◌, ◌-◌, ◌≤◌, ◌<◌, min}
 use mathlib.Core.Path.{◌≡◌, refl, sym, ◌∙◌, ap}
 use mathlib.Core.List.{List, [], ◌∷◌, ◌++◌, append_assoc}
 use native.Mathlib.Nat.{not-suc-le-zero}
-use native.Mathlib.Numerals.{add-one}
 use native.Mathlib.Omega.{arith}
-use lib.ListN.{length, take, drop, get_or, set, replicate, length-drop, length-set}
-use lib.Seq.{take-suc, drop-cons, set_at, set_split, get_or-append-add, get_or-drop, length-take-le, append_snoc, drop-drop, drop_at}
+use lib.ListN.{length, take, drop, get_or, set, replicate, length-drop}
+use lib.Seq.{drop-cons, set_at, set_split, get_or-drop, length-take-le, append_snoc, drop-drop, drop_at}
+use Rattle.std.specs.List.{copy_within}
 use Rattle.streaming.specs.Streaming.{latest}
 use Rattle.streaming.proofs.Streaming.{length_snoc}
 use Rattle.endian.specs.Numbers.{bytes_of}
@@ -15,53 +15,22 @@ use Rattle.records.specs.Bytes.{held_from, held_count, decode, encode}
 use Rattle.records.specs.Taking.{pushed, taken_into, started_into}
 use Rattle.records.proofs.Bytes.{Tidy}
 
--- MOVING UP: the list when i letters have moved
+-- MOVING UP: k letters, of which the first goes and each other stands one place further forward
 
-abbrev moved : ℕ → List ℕ → List ℕ
-moved i b = take i (drop 1 b) ++ drop i b
-
--- a store at the next place
-set_moved : (i x v : ℕ) (bs : List ℕ) → i ≤ length bs → set (moved i (x ∷ bs)) i v ≡ take i bs ++ (v ∷ drop i bs)
+set_moved : (i x v : ℕ) (bs : List ℕ) → i ≤ length bs → set (take i bs ++ drop i (x ∷ bs)) i v ≡ take i bs ++ (v ∷ drop i bs)
 set_moved i x v bs h = rw (drop-cons (x ∷ bs) i 0 (omega arith))
     (set_at (take i bs) (get_or (x ∷ bs) i 0) (drop i bs) v i (length-take-le i bs h))
 
-moved_next : (i : ℕ) (b : List ℕ) → i + 1 < length b → set (moved i b) i (get_or (moved i b) (i + 1) 0) ≡ moved (i + 1) b
-moved_next i [] h = absurd (not-suc-le-zero h)
-moved_next i (x ∷ bs) h =
-    let g : i < length bs = omega (arith, h) in
-    let front : length (take i bs) ≡ i = length-take-le i bs (omega arith) in
-    let there : get_or (moved i (x ∷ bs)) (i + 1) 0 ≡ get_or (x ∷ bs) (i + 1) 0 =
-    rw front at (get_or-append-add (take i bs) (drop i (x ∷ bs)) 1 0) ∙ get_or-drop i (x ∷ bs) 1 0 in
-    let next : get_or (moved i (x ∷ bs)) (i + 1) 0 ≡ get_or bs i 0 = there ∙ ap (λ (j : ℕ). get_or (x ∷ bs) j 0) (add-one i) in
-    rw next
-    (set_moved i x (get_or bs i 0) bs (omega arith)
-    ∙ sym (append_snoc (take i bs) (get_or bs i 0) (drop i bs))
-    ∙ ap (λ (l : List ℕ). l ++ drop i bs) (sym (take-suc bs i 0 g))
-    ∙ ap (λ (j : ℕ). moved j (x ∷ bs)) (sym (add-one i)))
-
-moved_end : (k : ℕ) (b : List ℕ) (a : ℕ) → 1 ≤ k → k ≤ length b → set (moved (k - 1) b) (k - 1) a ≡ pushed k k b a
+pub pushed_full : (k : ℕ) (b : List ℕ) (a : ℕ) → 1 ≤ k → k ≤ length b → set (copy_within b 1 k 0) (k - 1) a ≡ pushed k k b a
 unfolding pushed
-moved_end zero b a l h = absurd (not-suc-le-zero l)
-moved_end (suc k) [] a l h = absurd (not-suc-le-zero h)
-moved_end (suc k) (x ∷ bs) a l h =
+pushed_full zero b a l h = absurd (not-suc-le-zero l)
+pushed_full (suc k) [] a l h = absurd (not-suc-le-zero h)
+pushed_full (suc k) (x ∷ bs) a l h =
     let p : suc k - 1 ≡ k = omega arith in
     let q : suc (suc k) - suc k ≡ 1 = omega arith in
     let r : suc (suc k) - 1 ≡ suc k = omega arith in
-    rw (p, q, r) (set_moved k x a bs (omega arith) ∙ sym (append_snoc (take k bs) a (drop k bs)))
-
-pub record Moved (b : List ℕ) (i : ℕ) (out : List ℕ) : Type 0 where
-  pub is : out ≡ moved i b
-  pub long : length out ≡ length b
-
-pub moved_none : (b : List ℕ) → Moved b 0 b
-moved_none b = record { is = refl; long = refl }
-
-module _ {b : List ℕ} {i : ℕ} {out : List ℕ} (o : Moved b i out) where
-  pub moved_more : i + 1 < length b → Moved b (i + 1) (set out i (get_or out (i + 1) 0))
-  moved_more h = record { is = rw o.is (moved_next i b h); long = length-set out i _ ∙ o.long }
-
-  pub moved_all : (k a : ℕ) → i ≡ k - 1 → 1 ≤ k → k ≤ length b → set out (k - 1) a ≡ pushed k k b a
-  moved_all k a e l h = rw (o.is, e) (moved_end k b a l h)
+    let z : 0 + k ≡ k = omega arith in
+    rw (p, q, r, z) (set_moved k x a bs (omega arith) ∙ sym (append_snoc (take k bs) a (drop k bs)))
 
 -- a place is free: the letter goes there
 pub pushed_free : (k h : ℕ) (b : List ℕ) (a : ℕ) → h < k → k ≤ length b → set b h a ≡ pushed k h b a

@@ -2,8 +2,7 @@
 // What a record means for a walk is crate deciding's; here are only its bytes.
 #![tactic(auto)]
 
-ghost use Rattle.std.specs.Prelude.{◌≡◌, true, not, ◌∷◌, ◌++◌, ◌+◌, ◌≤◌, ◌<◌, min, eqb, length, get_or, drop, replicate};
-ghost use Rattle.bitset.specs.Sets.{any};
+ghost use Rattle.std.specs.Prelude.{◌≡◌, true, ◌∷◌, ◌++◌, ◌+◌, ◌≤◌, ◌<◌, length, drop};
 ghost use Rattle.streaming.specs.PlainWalk.{limit};
 ghost use Rattle.endian.specs.Numbers.{number_at, bytes_of};
 ghost use Rattle.records.specs.Bytes.{held_count, decode, tidy};
@@ -15,44 +14,32 @@ pub const LIMIT: usize = 1000000;
 // Where the held letters begin; the numbers of a record stand before them.
 pub const HELD_FROM: usize = 8;
 
-pub fn wide(x: u8) -> usize
-    ensures { (result ≡ x) × (result < 256) }
-{
-    x as usize
-}
-
-pub fn lesser(a: usize, b: usize) -> usize
-    ensures { result ≡ min a b }
-{
-    if a < b { a } else { b }
-}
-
 // READING
 
+#[inline(always)]
 pub fn fed_of(rec: &[u8]) -> usize
     requires { 8 ≤ length rec.now }
     ensures { result ≡ number_at rec.now 0 4 }
 {
-    endian::read_4(rec, 0) as usize
+    endian::read::<4>(rec, 0) as usize
 }
 
+#[inline(always)]
 pub fn held_of(rec: &[u8]) -> usize
     requires { 8 ≤ length rec.now }
     ensures { result ≡ held_count rec.now }
 {
-    endian::read_2(rec, 6) as usize
+    endian::read::<2>(rec, 6) as usize
 }
 
-// Whether so many bytes from a place on are zero.
-fn is_zero(rec: &[u8], from: usize, count: usize) -> bool
-    requires { from + count ≤ length rec.now }
-    ensures { result ≡ not (any count (λ i. not (eqb (get_or rec.now (from + i) 0) 0))) }
+// The held letters, oldest first.
+#[inline(always)]
+pub fn letters_of(rec: &[u8]) -> &[u8]
+    requires { 8 + held_count rec.now ≤ length rec.now }
+    ensures { result.now ≡ (decode rec.now).held }
 {
-    let mut zero = true;
-    for i in 0..count {
-        zero = zero & (rec[from + i] == 0);
-    }
-    zero
+    let end = HELD_FROM + held_of(rec);
+    &rec[HELD_FROM..end]
 }
 
 // Whether a record keeps the rules of the layout.
@@ -64,61 +51,48 @@ pub fn is_tidy(rec: &[u8], k: usize) -> bool
     if k < held {
         return false;
     }
-    (rec[5] == 0) & is_zero(rec, HELD_FROM + held, k - held)
+    let rest = &rec[HELD_FROM + held..HELD_FROM + k];
+    rec[5] == 0 && rest.iter().all(|byte| *byte == 0)
 }
 
 // Whether a record's numbers keep its rules.
+#[tactic(auto, unfolding(streaming::specs::PlainWalk::limit))]
 pub fn is_regular(n: usize, k: usize, fed: usize, last: usize, held: usize) -> bool
     ensures { result ≡ regular n k fed last held }
 {
-    let counted = (fed <= LIMIT) & (held == lesser(fed, k));
+    let counted = fed <= LIMIT && held == fed.min(k);
     if fed < k {
-        counted & (last == 255)
+        counted && last == 255
     } else {
-        counted & (last < n)
+        counted && last < n
     }
 }
 
 // WRITING
 
 // The numbers of a record, bytes 0 to 7.
-fn write_numbers(rec: &mut [u8], fed: usize, last: u8, held: usize)
+#[inline(always)]
+fn write_numbers(rec: &mut [u8], fed: u32, last: u8, held: u32)
     requires { 8 ≤ length rec.old }
     ensures { rec.new ≡ bytes_of 4 fed ++ (last ∷ 0 ∷ bytes_of 2 held ++ drop 8 rec.old) }
 {
-    rec[0] = (fed % 256) as u8;
-    rec[1] = (fed / 256 % 256) as u8;
-    rec[2] = (fed / 256 / 256 % 256) as u8;
-    rec[3] = (fed / 256 / 256 / 256 % 256) as u8;
+    endian::write::<4>(rec, 0, fed);
     rec[4] = last;
     rec[5] = 0;
-    rec[6] = (held % 256) as u8;
-    rec[7] = (held / 256 % 256) as u8;
+    endian::write::<2>(rec, 6, held);
 }
 
-// All k letters are held: they move up by one, and the letter comes last.
-fn move_up(held: &mut [u8], k: usize, letter: u8)
-    requires { (1 ≤ k) × (k ≤ length held.old) }
-    ensures { held.new ≡ pushed k k held.old letter }
-{
-    let last = k - 1;
-    for i in 0..last {
-        held[i] = held[i + 1];
-    }
-    held[last] = letter;
-}
-
-// One letter more, behind the h of at most k that are held.
+// One letter more, behind the h of at most k that are held; where k are held they move up by one.
+#[inline(always)]
 fn push(held: &mut [u8], k: usize, h: usize, letter: u8)
     requires { (h ≤ k) × (k ≤ length held.old) }
     ensures { held.new ≡ pushed k h held.old letter }
 {
     if h < k {
         held[h] = letter;
-        return;
-    }
-    if 0 < k {
-        move_up(held, k, letter);
+    } else if 0 < k {
+        held.copy_within(1..k, 0);
+        held[k - 1] = letter;
     }
 }
 
@@ -127,19 +101,10 @@ pub fn keep(rec: &mut [u8], k: usize, letter: u8, last: u8)
     requires { (8 + k ≤ length rec.old) × (tidy k rec.old ≡ true) × ((decode rec.old).fed < limit) }
     ensures { rec.new ≡ taken_into k rec.old letter last }
 {
-    let fed = fed_of(&rec[..]);
-    let held = held_of(&rec[..]);
+    let fed = fed_of(rec);
+    let held = held_of(rec);
     push(&mut rec[HELD_FROM..], k, held, letter);
-    write_numbers(rec, fed + 1, last, lesser(held + 1, k));
-}
-
-fn clear(held: &mut [u8], k: usize)
-    requires { k ≤ length held.old }
-    ensures { held.new ≡ replicate k 0 ++ drop k held.old }
-{
-    for i in 0..k {
-        held[i] = 0;
-    }
+    write_numbers(rec, (fed + 1) as u32, last, (held + 1).min(k) as u32);
 }
 
 // A record of no letters, whose last state is given.
@@ -147,6 +112,6 @@ pub fn start(rec: &mut [u8], k: usize, last: u8)
     requires { 8 + k ≤ length rec.old }
     ensures { rec.new ≡ started_into k rec.old last }
 {
-    clear(&mut rec[HELD_FROM..], k);
+    rec[HELD_FROM..HELD_FROM + k].fill(0);
     write_numbers(rec, 0, last, 0);
 }

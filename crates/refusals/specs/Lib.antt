@@ -1,3 +1,4 @@
 pub mod Checks
 pub mod Outcomes
+pub mod Named
 pub mod Groups

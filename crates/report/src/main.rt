@@ -9,22 +9,9 @@ ghost use Rattle.steps.specs.Steps.{Readable};
 use std::io::{Read, Write};
 use steps::Stage;
 
-// So many bytes of a buffer are written; answers whether they could be.
-fn print(rt: &HostRuntime, out: &[u8], count: usize) -> bool
-    requires { count ≤ length out.now }
-{
-    match rt.stdout().write_all(&out[..count]) {
-        Ok(()) => true,
-        Err(_) => false,
-    }
-}
-
 // A line on standard error, which says what could not be done; if it cannot be written either, nothing more can be said.
 fn complain(rt: &HostRuntime, line: &[u8]) {
-    match rt.stderr().write_all(line) {
-        Ok(()) => {}
-        Err(_) => {}
-    }
+    let _ = rt.stderr().write_all(line);
 }
 
 // Some bytes are read, a step is done on them, and what it answers is written. Answers where the report stands then.
@@ -32,43 +19,38 @@ fn turn(
     rt: &HostRuntime,
     stage: Stage,
     input: &mut [u8],
-    table: &mut [u64; 2052],
-    rec: &mut [u8; 2024],
-    out: &mut [u8; 551904],
+    table: &mut [u64; table::MAX_TABLE],
+    rec: &mut [u8; text::RECORD_SIZE],
+    out: &mut [u8; steps::OUT_SIZE],
 ) -> Stage
     requires { Readable stage × (65535 ≤ length input.old) }
     ensures { Readable result }
 {
     let from = steps::from(stage);
     let upto = steps::upto(stage);
-    let got = rt.stdin().read(&mut input[from..upto]);
-    match got {
-        Ok(count) => {
-            let end = from + count;
-            let next = steps::step(stage, &input[..end], table, rec, out);
-            if !print(rt, out, next.count) {
-                complain(rt, b"report: standard output could not be written\n");
-                return Stage::Over;
-            }
-            next.stage
-        }
-        Err(_) => {
-            complain(rt, b"report: standard input could not be read\n");
-            Stage::Over
-        }
+    let Ok(count) = rt.stdin().read(&mut input[from..upto]) else {
+        complain(rt, b"report: standard input could not be read\n");
+        return Stage::Over;
+    };
+    let next = steps::step(stage, &input[..from + count], table, rec, out);
+    if rt.stdout().write_all(&out[..next.count]).is_err() {
+        complain(rt, b"report: standard output could not be written\n");
+        return Stage::Over;
     }
+    next.stage
 }
 
 fn main(rt: HostRuntime) {
     let mut input = [0u8; 65535];
-    let mut table = [0u64; 2052];
-    let mut rec = [0u8; 2024];
-    let mut out = [0u8; 551904];
+    let mut table = [0u64; table::MAX_TABLE];
+    let mut rec = [0u8; text::RECORD_SIZE];
+    let mut out = [0u8; steps::OUT_SIZE];
     let mut stage = steps::first();
     // a proved loop has to end: no run uses up so many turns
-    let mut turns = u64::MAX;
-    while turns > 0 && steps::from(stage) < steps::upto(stage) {
+    for _ in 0..u64::MAX {
+        if steps::upto(stage) <= steps::from(stage) {
+            break;
+        }
         stage = turn(&rt, stage, &mut input, &mut table, &mut rec, &mut out);
-        turns -= 1;
     }
 }

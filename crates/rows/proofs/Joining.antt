@@ -1,35 +1,32 @@
 -- Joining a set at the places of others: what the loop over the firsts keeps, and what it comes to in rows.
 -- Assumes nothing.
-use mathlib.Core.Bool.{Bool, true, false, not, ◌&&◌, ◌||◌, and-not_self, and-true, and-false, or-true, or-false, or_assoc}
+use mathlib.Core.Bool.{Bool, true, false, ◌&&◌, ◌||◌, or-false, or_assoc}
 use mathlib.Core.Bool.{and-or_distrib_left, and-or_distrib_right}
 use mathlib.Core.Path.{◌≡◌, refl, ◌∙◌}
 use mathlib.Core.List.{List}
-use Prim.Native.Nat.{ℕ, ◌+◌, ◌*◌, ◌<◌, ◌-◌}
+use Prim.Native.Nat.{ℕ, ◌+◌, ◌*◌, ◌<◌}
 use native.Mathlib.Decide.{ℕ_discrete}
 use native.Mathlib.Omega.{arith}
-use lib.Bits.{bit_and, bit_or}
-use lib.Count.{count_trailing_zeros}
+use lib.Bits.{bit_or}
 use lib.Dec.{eqb}
 use lib.ListN.{length, get_or, set, length-set}
 use lib.Seq.{get_or-set_same, get_or-set_other}
 use borrow.Author.Tests.{eq-eqb, eqb-true}
 use Rattle.bitset.specs.Numbers.{has}
+use Rattle.bitset.specs.Members.{Taken}
 use Rattle.bitset.proofs.Tests.{and_out, not_so}
-use Rattle.bitset.proofs.Bits.{has_or, has_empty}
-use Rattle.bitset.proofs.Members.{has_strike}
-use Rattle.bitset.proofs.Taking.{Left, least_in, taken}
+use Rattle.bitset.proofs.Bits.{has_or}
+use Rattle.bitset.proofs.Taking.{Left, taken, taken_with, taken_all, next_in}
 use Rattle.semiautomata.specs.Successors.{place, set_at}
 use Rattle.rows.specs.Rows.{Put}
 use Rattle.rows.specs.inner.Joined.{JoinedAt}
 use Rattle.semiautomata.proofs.Places.{place_same}
 
-struck : (h r b : Bool) → (b ≡ true → h ≡ true) → (h && not (r && not b)) ≡ (h && not r || b)
-struck h r true f = rw (f refl, and-false, or-true)
-struck h r false f = rw (and-true, or-false)
-
--- none of the firsts has been taken
-pub joining_first : (width at firsts seconds : ℕ) (old : List ℕ) → JoinedAt width at (taken firsts firsts) seconds old old
-joining_first width at firsts seconds old = record { long = refl; is = λ s b t h. rw (and-not_self (has firsts s), and-false, or-false) }
+-- the place of the next of the firsts is among the rows
+pub joining_room : {width at firsts rest z left seconds : ℕ} {p : ℕ → Bool} {old new : List ℕ}
+    → ((s : ℕ) → has firsts s ≡ true → place width s at < length old) → Left 64 firsts rest → JoinedAt width at p seconds old new
+    → Taken rest z left → place width z at < length new
+joining_room f l k t = rw k.long (f _ (next_in l t))
 
 module _ {width at : ℕ} (h : at < width) where
   -- one place is joined with the seconds
@@ -46,28 +43,25 @@ module _ {width at : ℕ} (h : at < width) where
         rw (get_or-set_other rows (place width z at) (place width s b) _ 0 q, other, or-false)
   ]
 
-  pub joining_next : {firsts rest seconds : ℕ} {old new : List ℕ} → Left 64 firsts rest → 0 < rest
-      → place width (count_trailing_zeros 64 rest) at < length new → JoinedAt width at (taken firsts rest) seconds old new
-      → let here = place width (count_trailing_zeros 64 rest) at in
-      JoinedAt width at (taken firsts (bit_and rest (rest - 1))) seconds old (set new here (bit_or (get_or new here 0) seconds))
-  joining_next {firsts} {rest} {seconds} {old} {new} l p r k = record {
+  pub joining_next : {firsts rest z left seconds : ℕ} {old new : List ℕ} → Left 64 firsts rest → Taken rest z left
+      → place width z at < length new → JoinedAt width at (taken firsts rest) seconds old new
+      → let here = place width z at in
+      JoinedAt width at (taken firsts left) seconds old (set new here (bit_or (get_or new here 0) seconds))
+  joining_next {firsts} {rest} {z} {left} {seconds} {old} {new} l p r k = record {
     long = simp length-set k.long;
-    is = λ s b t g.
-        let z = count_trailing_zeros 64 rest in
-        rw (
-          join_place new z seconds s b t g r,
-          k.is s b t g,
-          has_strike 64 rest s l.below,
-          struck (has firsts s) (has rest s) (eqb z s) (λ e. rw (eqb-true z s e) at (least_in l p)),
-          and-or_distrib_left,
-          and-or_distrib_right,
-          or_assoc,
-        );
+    is = λ s b t g. rw (
+      join_place new z seconds s b t g r,
+      k.is s b t g,
+      taken_with l p s,
+      and-or_distrib_left,
+      and-or_distrib_right,
+      or_assoc,
+    );
   }
 
-pub joining_all : {width at rest seconds : ℕ} {old new : List ℕ} (firsts : ℕ) → rest ≡ 0
+pub joining_all : {width at rest firsts seconds : ℕ} {old new : List ℕ} → Left 64 firsts rest → rest ≡ 0
     → JoinedAt width at (taken firsts rest) seconds old new → JoinedAt width at (has firsts) seconds old new
-joining_all firsts e k = record { long = k.long; is = λ s b t h. k.is s b t h ∙ rw (e, has_empty, and-true) }
+joining_all l e k = record { long = k.long; is = λ s b t h. k.is s b t h ∙ rw (taken_all l e s) }
 
 -- rows have one place for each state
 pub joined_put : {firsts seconds : ℕ} {old new : List ℕ} → JoinedAt 1 0 (has firsts) seconds old new → Put firsts seconds old new

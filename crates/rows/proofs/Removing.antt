@@ -37,10 +37,10 @@ module _ {new : List ℕ} {s : ℕ} (room : s < length new) where
       v : ℕ
       v = bit_xor (get_or new s 0) (get_or struck s 0)
 
-  pub union_next : {all : ℕ} (v : ℕ) → Union new all s → Union (set new s v) (bit_or all v) (s + 1)
+  pub union_next : {all : ℕ} (v : ℕ) → Union new all s → Union (set new s v) (bit_or all (get_or (set new s v) s 0)) (s + 1)
   unfolding any
   union_next {all} v k = record {
     is = λ t.
         let kept = any_cong s (λ x. pair new x t) (λ x. pair (set new s v) x t) (λ x h. rw (get_or-set_other new s x v 0 (omega arith))) in
-        rw (add-one, has_or, k.is t, get_or-set_same new s v 0 room) (ap (λ (b : Bool). b || has v t) kept);
+        rw (add-one, has_or, k.is t) (ap (λ (b : Bool). b || has (get_or (set new s v) s 0) t) kept);
   }

@@ -1,10 +1,9 @@
 -- Rows of pairs of states: bit t of row s is the pair s and t. Pairs are put in, taken out, and two states are searched for.
 -- Assumes nothing.
-use Rattle.std.specs.Prelude.{ℕ, ◌≤◌, ◌<◌, Bool, true, false, ◌&&◌, ◌||◌, ◌≡◌, List, length, get_or}
+use Rattle.std.specs.Prelude.{ℕ, ◌≤◌, ◌<◌, Bool, true, ◌&&◌, ◌||◌, ◌≡◌, List, length, get_or, Option, None, Some}
 use Rattle.std.specs.Bool.{xor}
 use Rattle.bitset.specs.Sets.{any}
 use Rattle.bitset.specs.Numbers.{has}
-use Rattle.rows.specs.declared.Two.{Two}
 
 -- The pair s and t is in the rows.
 abbrev pub pair : List ℕ → ℕ → ℕ → Bool
@@ -37,6 +36,7 @@ pub record Common (n : ℕ) (live rival : List ℕ) (low high : ℕ) : Type 0 wh
 pub record Apart (live rival : List ℕ) (k : ℕ) : Type 0 where
   pub none : (high : ℕ) → high < k → (low : ℕ) → low < high → pair live high low ≡ true → ¬ (pair rival high low ≡ true)
 
--- What the search for two such states answers.
-abbrev pub Searched : ℕ → List ℕ → List ℕ → Two → Type 0
-Searched n live rival r = (r.found ≡ true → Common n live rival r.low r.high) × (r.found ≡ false → Apart live rival n)
+-- What the search for two such states answers: them, or that there are none.
+abbrev pub Searched : ℕ → List ℕ → List ℕ → Option (ℕ × ℕ) → Type 0
+Searched n live rival (Some (low, high)) = Common n live rival low high
+Searched n live rival None = Apart live rival n

@@ -13,6 +13,6 @@ pub mod Positions
 pub mod Doubts
 pub mod Waiting
 pub mod Selectors
-pub mod Successors
+pub mod BySets
 pub mod Places
 pub mod Theorems

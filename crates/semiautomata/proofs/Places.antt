@@ -7,7 +7,7 @@ use native.Mathlib.Nat.{mul-le-mul, mul-add-div_right, mul-add-mod_self_right, d
 use native.Mathlib.Omega.{arith}
 use lib.ListN.{length, get_or, replicate, length-replicate}
 use Rattle.semiautomata.specs.Successors.{place, set_at, Fit, Blank}
-use Rattle.semiautomata.proofs.Successors.{place_lt}
+use Rattle.semiautomata.proofs.BySets.{place_lt}
 
 pub place_in : {n m : ℕ} {sets : List ℕ} → Fit n m sets → (q a : ℕ) → q < n → a < m → place m q a < length sets
 place_in {n} {m} f q a h g = lt_of_lt_of_le (place_lt n m q a h g) f.room

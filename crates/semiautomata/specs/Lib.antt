@@ -10,4 +10,5 @@ pub mod Waiting
 pub mod Selectors
 pub mod Levels
 pub mod Successors
+pub mod Means
 pub mod Theorems

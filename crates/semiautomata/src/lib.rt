@@ -1,7 +1,9 @@
 // Predictable semiautomata (Brzozowski and Santean, CS-2007-03) as documents 01 and 003 speak of them: definitions and theorems.
 // specs/ is what a reader must believe, in the order of specs/Lib.antt; specs/Theorems.antt says what is proved of it.
-// Here are only the greatest sizes of a plan and of what is made of it.
+// Here are the greatest sizes of a plan and of what is made of it, and the one form in which code has a semiautomaton.
 #![tactic(auto)]
+
+pub mod successors; // successors.rt: a semiautomaton by its successor sets
 
 pub const MAX_STATES: usize = 64;
 

@@ -1,5 +1,7 @@
 -- The verdict on a look-ahead word by the number of survivors: which words are minimal selectors and maximal nonselectors.
 -- Assumes nothing.
+use Rattle.std.specs.List.{IsLastAndRest}
+use Rattle.std.proofs.lemmas.List.{take_at}
 use Prim.Native.Nat.{ℕ, zero, suc, ◌-◌, ◌≤◌, ◌<◌}
 use mathlib.Core.Bool.{Bool, true, false, not, ◌&&◌, and-false}
 use mathlib.Core.Path.{◌≡◌, refl, sym, ◌∙◌}
@@ -86,11 +88,14 @@ module _ (S : Semiautomaton) (X : ℕ → Bool) where
       unfolding minimal_selector selector any
       of_one_empty z = record { survivors = e; minimal = rw (← many, one, z); nonselected = none (omega arith) }
 
-      pub of_one : 0 < length w → {before : ℕ} → before ≡ set_of S.n (survivors S X (take (length w - 1) w))
+      pub of_one : (last : ℕ) (rest : List ℕ) → IsLastAndRest w last rest → {before : ℕ} → before ≡ set_of S.n (survivors S X rest)
           → Computes S X w (record { survivors = found; minimal = not (eqb (ones before) 1); nonselected = 0 })
       unfolding minimal_selector selector
-      of_one h d = record {
-        survivors = e;
-        minimal = rw (counted S.n _ d, ← many, one, shorter w (sym many ∙ one) h);
-        nonselected = none (omega arith);
-      }
+      of_one last rest (ends, long) d =
+          let short : length w - 1 ≡ length rest = omega arith in
+          let longest : take (length w - 1) w ≡ rest = rw (short, ends) (take_at rest (last ∷ []) _ refl) in
+          record {
+            survivors = e;
+            minimal = rw (counted S.n _ d, ← many, one, ← longest, shorter w (sym many ∙ one) (omega arith));
+            nonselected = none (omega arith);
+          }

@@ -1,29 +1,34 @@
 -- What is answered of the critical set that two numbers name.
 -- Assumes nothing.
+use Rattle.std.specs.Prelude.{Ok, Err}
 use Prim.Native.Nat.{ℕ, ◌<◌}
 use mathlib.Core.Bool.{true, false, ◌&&◌}
-use mathlib.Core.Option.{some}
+use mathlib.Core.Option.{none}
 use mathlib.Core.Path.{◌≡◌, sym, ◌∙◌, ap, subst, fun_ext}
 use mathlib.Core.List.{List}
 use native.Mathlib.Omega.{arith}
-use lib.Dec.{eqb, ltb}
-use lib.ListN.{get_or}
-use borrow.Author.Tests.{ltb-true}
+use lib.Dec.{eqb}
+use borrow.Author.Tests.{lt-ltb}
 use Rattle.bitset.specs.Numbers.{has}
-use Rattle.bitset.proofs.Tests.{and_out, or_right}
+use Rattle.bitset.proofs.Tests.{or_right}
 use Rattle.semiautomata.specs.Semiautomaton.{Semiautomaton, Within}
 use Rattle.semiautomata.specs.Predictability.{Critical, initial, fork, member, named}
-use Rattle.semiautomata.specs.Successors.{place}
+use Rattle.semiautomata.specs.Successors.{set_at}
+use Rattle.semiautomata.specs.Means.{means}
+use Rattle.semiautomata.specs.declared.successors.Successors.{Successors}
 use Rattle.semiautomata.proofs.Selectors.{survivors_in, survivors_out, minimal_in, minimal_out, maximal_in, maximal_out}
-use Rattle.semiautomata.proofs.Successors.{edge_is}
+use Rattle.semiautomata.proofs.BySets.{edge_is}
+use Rattle.semiautomata.proofs.Places.{place_fits}
+use Rattle.refusals.specs.declared.Refusal.{Refusal}
+use Rattle.refusals.specs.declared.Refusal.TheVariants as refusal
 use Rattle.simulate.specs.declared.Verdict.{Verdict}
-use Rattle.simulate.specs.declared.Judged.TheVariants.{Told, Refused}
 use Rattle.table.specs.declared.Head.{Head}
-use Rattle.table.specs.Table.{states_of, letters_of, table_meaning, unfit}
-use Rattle.table.proofs.Heads.{lent, over, Headed}
+use Rattle.table.specs.Table.{letters_of, table_meaning, unfit}
+use Rattle.table.specs.Heads.{Headed}
+use Rattle.table.proofs.Heads.{head_means, head_fits}
 use Rattle.walks.specs.Walking.{letter_off}
 use Rattle.simulate.specs.Verdicts.{unnamed, verdict_refusal, Tells, Judges}
-use Rattle.simulate.specs.inner.Verdicts.{Computes}
+use Rattle.simulate.specs.inner.Verdicts.{Computes, Names}
 use Rattle.simulate.proofs.Sets.{stands}
 
 member_lt : (S : Semiautomaton) → Within S → (T : Critical) (s : ℕ) → member S T s ≡ true → s < S.n
@@ -43,49 +48,44 @@ tells S W T {w} k =
           (λ x c. (below x c.survives.from_it, maximal_in S W X below w x c));
     }
 
+-- WHAT THE NUMBERS NAME
+
+pub names_fork : (x : Successors) (q a : ℕ) {set : ℕ} → (eqb q 255 && eqb a 0) ≡ false → q < x.n → a < x.m
+    → set ≡ set_at x.m x.sets.now q a → Names (means x) q a (Ok set)
+names_fork x q a o h g e = (
+  rw e (place_fits x.fit q a h g),
+  fork q a,
+  rw (o, lt-ltb q x.n h, lt-ltb a x.m g),
+  ap has e ∙ fun_ext (λ t. sym (edge_is x.n x.m x.starts x.sets.now q a t h g)),
+)
+
 -- WHAT IS ANSWERED
 
 module _ (table : List ℕ) (q a : ℕ) (w : List ℕ) where
-  pub judge_8 : unfit table ≡ true → Judges table q a w (Refused 8)
+  pub judge_8 : {r : Refusal} → (unfit table ≡ true) × (r ≡ refusal.Table) → Judges table q a w (Err r)
   unfolding verdict_refusal
-  judge_8 e = (rw e, λ z. omega arith, tt)
+  judge_8 (e, is) = rw is (rw e, λ z. omega arith, tt)
 
   module _ {head : Head} (h : Headed table head) where
-    pub judge_letter : letter_off head.m w ≡ true → Judges table q a w (Refused 12)
+    pub judge_letter : letter_off head.succ.m w ≡ true → Judges table q a w (Err refusal.Letter)
     unfolding verdict_refusal
     judge_letter e =
         let off = or_right (unnamed (named (table_meaning table) q a)) (letter_off (letters_of table) w) (rw h.m_is at e) in
         (rw (h.sound, off), λ z. omega arith, tt)
 
-    module _ (other : (eqb q 255 && eqb a 0) ≡ false) where
-      pub judge_name : (ltb q head.n && ltb a head.m) ≡ false → Judges table q a w (Refused 12)
-      unfolding verdict_refusal
-      judge_name e = let d : (ltb q (states_of table) && ltb a (letters_of table)) ≡ false = rw (h.n_is, h.m_is) at e in
-          (rw (h.sound, other, d), λ z. omega arith, tt)
+    pub judge_none : {r : Refusal} → Names (means head.succ) q a (Err r) → Judges table q a w (Err r)
+    unfolding verdict_refusal
+    judge_none (e, is) =
+        let d : named (table_meaning table) q a ≡ none = subst (λ S. named S q a ≡ none) (head_means h) e in
+        rw is (rw (h.sound, d), λ z. omega arith, tt)
 
-    module _ (on : letter_off head.m w ≡ false) {v : Verdict} where
-      told : (T : Critical) → named (table_meaning table) q a ≡ some T → (set : ℕ) → has set ≡ member (table_meaning table) T
-          → ((starts : ℕ) → Computes (over table head starts) (has set) w v) → Judges table q a w (Told v)
-      unfolding verdict_refusal
-      told T e set s k =
-          let d : Computes (table_meaning table) (member (table_meaning table) T) w v =
-          rw (← s) (subst (λ (S : Semiautomaton). Computes S (has set) w v) h.means (k head.starts)) in (
-            rw (h.sound, e, rw h.m_is at on),
-            λ U g. let same : T ≡ U = cc in rw (← same) (tells (table_meaning table) h.fits.within T d),
-          )
-
-      pub told_initial : (eqb q 255 && eqb a 0) ≡ true
-          → ((starts : ℕ) → Computes (over table head starts) (has head.starts) w v)
-          → Judges table q a w (Told v)
-      told_initial e k = told initial (rw e) head.starts (ap has h.starts_is) k
-
-      -- a fork set is the set at its place
-      pub told_fork : (eqb q 255 && eqb a 0) ≡ false → (ltb q head.n && ltb a head.m) ≡ true
-          → ((starts : ℕ) → Computes (over table head starts) (has (get_or (lent table) (place head.m q a) 0)) w v)
-          → Judges table q a w (Told v)
-      told_fork e d k =
-          let (x, y) = and_out _ _ d in
-          let at = fun_ext (λ t. sym (edge_is head.n head.m head.starts (lent table) q a t (ltb-true _ _ x) (ltb-true _ _ y))) in
-          let d : (ltb q (states_of table) && ltb a (letters_of table)) ≡ true = rw (h.n_is, h.m_is) at d in
-          told (fork q a) (rw (e, d)) (get_or (lent table) (place head.m q a) 0)
-          (at ∙ ap (λ (S : Semiautomaton). S.edge q a) h.means) k
+    pub judge_told : letter_off head.succ.m w ≡ false → {set : ℕ} → Names (means head.succ) q a (Ok set) → {v : Verdict}
+        → Computes (means head.succ) (has set) w v → Judges table q a w (Ok v)
+    unfolding verdict_refusal
+    judge_told on {set} names {v} k =
+        let S = table_meaning table in
+        let (_, T, e, s) : Names S q a (Ok set) = subst (λ S. Names S q a (Ok set)) (head_means h) names in
+        let k : Computes S (member S T) w v = rw (← s) (subst (λ S. Computes S (has set) w v) (head_means h) k) in (
+          rw (h.sound, e, rw h.m_is at on),
+          λ U g. let same : T ≡ U = cc in rw (← same) (tells S (head_fits h).within T k),
+        )

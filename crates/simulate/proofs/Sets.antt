@@ -11,7 +11,7 @@ use Rattle.bitset.specs.Numbers.{has, set_of}
 use Rattle.bitset.proofs.Tests.{and_out}
 use Rattle.bitset.proofs.Below.{size_cong}
 use Rattle.bitset.proofs.Bits.{set_of_lt, has_set_of}
-use Rattle.bitset.proofs.Members.{ones_size}
+use Rattle.bitset.proofs.Counts.{ones_size}
 use Rattle.simulate.specs.Verdicts.{Stands}
 
 module _ (n : ℕ) (p : ℕ → Bool) where

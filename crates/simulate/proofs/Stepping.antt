@@ -1,58 +1,67 @@
 -- What is answered of a step, test by test, and where steps along a word lead.
 -- Assumes nothing.
-use Prim.Native.Nat.{ℕ, suc, ◌-◌, ◌/◌, ◌^◌, ◌<◌}
-use mathlib.Core.Bool.{Bool, true, false, ◌||◌}
-use mathlib.Core.Path.{◌≡◌, refl, sym, ◌∙◌, ap}
+use Rattle.std.specs.Prelude.{Ok, Err}
+use Prim.Native.Nat.{ℕ, suc, ◌-◌, ◌/◌, ◌^◌, ◌≤◌, ◌<◌}
+use mathlib.Core.Bool.{true, false}
+use mathlib.Core.Path.{◌≡◌, refl, sym, ◌∙◌, ap, subst}
 use mathlib.Core.List.{List, [], ◌∷◌}
 use native.Mathlib.Omega.{arith}
 use lib.Dec.{leb, ltb}
-use borrow.Author.Tests.{leb-false, lt-leb}
+use borrow.Author.Tests.{leb-false, lt-leb, le-leb, lt-ltb, le-ltb}
 use Rattle.bitset.specs.Sets.{size}
 use Rattle.bitset.specs.Numbers.{has, set_of}
-use Rattle.bitset.proofs.Tests.{or_none}
+use Rattle.bitset.proofs.Tests.{or_right}
 use Rattle.bitset.proofs.Bits.{set_of_lt, set_of_has, above_shift}
-use Rattle.semiautomata.specs.Semiautomaton.{Semiautomaton}
 use Rattle.semiautomata.specs.Walks.{step, reach}
+use Rattle.semiautomata.specs.Means.{means}
+use Rattle.refusals.specs.declared.Refusal.{Refusal}
+use Rattle.refusals.specs.declared.Refusal.TheVariants as refusal
 use Rattle.refusals.proofs.First.{passed_first}
 use Rattle.table.specs.declared.Head.{Head}
 use Rattle.table.specs.Table.{states_of, letters_of, table_meaning, unfit}
-use Rattle.table.proofs.Heads.{over, Headed}
+use Rattle.table.specs.Heads.{Headed}
+use Rattle.table.proofs.Heads.{head_means, head_fits}
 use Rattle.walks.specs.declared.Gathered.{Gathered}
 use Rattle.walks.specs.Walking.{Letters}
 use Rattle.walks.proofs.Letters.{letters_drop}
 use Rattle.walks.proofs.Steps.{reach_members}
-use Rattle.simulate.specs.declared.Stepped.TheVariants.{To, Refused}
 use Rattle.simulate.specs.Stepping.{step_checks, step_refusal, gathered_of, StepsTo, StepsAlong}
 
 module _ (table : List ℕ) (set a : ℕ) where
-  pub step_8 : unfit table ≡ true → StepsTo table set a (Refused 8)
+  pub step_8 : {r : Refusal} → (unfit table ≡ true) × (r ≡ refusal.Table) → StepsTo table set a (Err r)
   unfolding step_refusal
-  step_8 e = (rw e, λ z. omega arith, tt)
+  step_8 (e, is) = rw is (rw e, λ z. omega arith, tt)
 
   module _ {head : Head} (h : Headed table head) where
-    -- the code's test for 12, and what it says
-    abbrev test : Bool
-    test = leb head.m a || ltb 1 (set / 2 ^ (head.n - 1))
+    -- the code's test for a bit n or higher
+    high : ltb 1 (set / 2 ^ (head.succ.n - 1)) ≡ leb (2 ^ states_of table) set
+    high = let e : suc (head.succ.n - 1) ≡ head.succ.n = omega (arith, h.n_is, (head_fits h).some_state) in
+        above_shift (head.succ.n - 1) set ∙ rw (e, h.n_is)
 
-    test_is : (leb (letters_of table) a || leb (2 ^ states_of table) set) ≡ test
-    test_is = let e : suc (head.n - 1) ≡ head.n = omega (arith, h.n_is, h.fits.some_state) in
-        rw (above_shift (head.n - 1) set, e, h.n_is, h.m_is)
-
-    pub step_12 : test ≡ true → StepsTo table set a (Refused 12)
+    pub step_12_letter : head.succ.m ≤ a → StepsTo table set a (Err refusal.Letter)
     unfolding step_refusal
-    step_12 e = (rw (h.sound, test_is ∙ e), λ z. omega arith, tt)
+    step_12_letter g = (rw (h.sound, le-leb (letters_of table) a (rw h.m_is at g)), λ z. omega arith, tt)
 
-    module _ (on : test ≡ false) where
-      pub step_in : (set < 2 ^ head.n) × (a < head.m)
-      step_in = let (x, y) = or_none _ _ (test_is ∙ on) in (rw h.n_is (leb-false _ _ y), rw h.m_is (leb-false _ _ x))
+    pub step_12_set : 1 < set / 2 ^ (head.succ.n - 1) → StepsTo table set a (Err refusal.Letter)
+    unfolding step_refusal
+    step_12_set g =
+        let off = or_right (leb (letters_of table) a) _ (sym high ∙ lt-ltb 1 _ g) in (rw (h.sound, off), λ z. omega arith, tt)
 
-      pub step_on : {g : Gathered} → ((starts : ℕ) → g.set ≡ set_of head.n (step (over table head starts) (has set) a))
-          → g.rounds ≡ size head.n (has set) → StepsTo table set a (To g)
+    module _ (low : set / 2 ^ (head.succ.n - 1) ≤ 1) where
+      below : leb (2 ^ states_of table) set ≡ false
+      below = sym high ∙ le-ltb 1 _ low
+
+      pub step_in : set < 2 ^ head.succ.n
+      step_in = rw h.n_is (leb-false _ _ below)
+
+      pub step_on : a < head.succ.m → {g : Gathered}
+          → (g.set ≡ set_of head.succ.n (step (means head.succ) (has set) a)) × (g.rounds ≡ size head.succ.n (has set))
+          → StepsTo table set a (Ok g)
       unfolding step_refusal
-      step_on {g} d e =
-          let set_is = d head.starts ∙ ap (λ (S : Semiautomaton). set_of S.n (step S (has set) a)) h.means in
-          let rounds-is = e ∙ ap (λ n. size n (has set)) h.n_is in
-          (passed_first (step_checks table set a) (h.sound, (test_is ∙ on, tt)), λ i. record { set = set_is i; rounds = rounds-is i })
+      step_on b {g} (e, d) = (
+        passed_first (step_checks table set a) (h.sound, (rw (lt-leb (letters_of table) a (rw h.m_is at b), below), tt)),
+        subst (λ S. g ≡ gathered_of S set a) (head_means h) (λ i. record { set = e i; rounds = d i }),
+      )
 
 -- ALONG A WORD
 

@@ -1,5 +1,6 @@
 -- The theorems of specs/Theorems.antt.
 -- Assumes nothing.
+use Rattle.std.specs.Prelude.{Result, Ok, Err}
 use Prim.Native.Nat.{ℕ, suc, ◌^◌, ◌≤◌, ◌<◌}
 use mathlib.Core.Bool.{Bool, true, false, not, false≢true}
 use mathlib.Core.Option.{some}
@@ -18,7 +19,7 @@ use Rattle.bitset.specs.Numbers.{has, set_of}
 use Rattle.bitset.proofs.Tests.{not_so, same_test, or_none}
 use Rattle.bitset.proofs.Below.{any_in, any_out}
 use Rattle.bitset.proofs.Bits.{has_empty, has_lt, some_member, set_of_cong, set_of_has}
-use Rattle.bitset.proofs.Members.{ones_size}
+use Rattle.bitset.proofs.Counts.{ones_size}
 use Rattle.semiautomata.specs.Semiautomaton.{Semiautomaton, Within, Path, Spells}
 use Rattle.semiautomata.specs.Predictability.{Critical, member, named}
 use Rattle.semiautomata.specs.Walks.{OnPlan, LedTo, Longest, Possible, PossibleAt, reach}
@@ -32,13 +33,8 @@ use Rattle.table.proofs.Fitness.{fitting}
 use Rattle.walks.proofs.Letters.{letters_stray}
 use Rattle.walks.proofs.Longest.{longest_some}
 use Rattle.walks.specs.declared.Gathered.{Gathered}
-use Rattle.simulate.specs.declared.Stepped.{Stepped}
-use Rattle.simulate.specs.declared.Stepped.TheVariants.{To}
-use Rattle.simulate.specs.declared.Stepped.TheVariants as a_step
-use Rattle.simulate.specs.declared.Walked.{Walked}
-use Rattle.simulate.specs.declared.Walked.TheVariants.{Upto, Refused}
+use Rattle.refusals.specs.declared.Refusal.{Refusal}
 use Rattle.simulate.specs.declared.Verdict.{Verdict}
-use Rattle.simulate.specs.declared.Judged.TheVariants.{Told}
 use Rattle.simulate.specs.Stepping.{step_checks, step_refusal, gathered_of, StepsTo, StepsAlong}
 use Rattle.simulate.specs.Walking.{walk_checks, walk_refusal, traced, Walks}
 use Rattle.simulate.specs.Verdicts.{Stands, Tells, Judges}
@@ -63,14 +59,14 @@ led_stands S W set h w e = stands S.n _ e (led_out S (has set) w)
     (λ x c. (path_lt S W w c.start x (has_lt _ _ _ h c.from_it) c.path, led_in S W (has set) w x c))
 
 -- a step that is not refused was lent a fit table and a set of its states
-step_passed : (table : List ℕ) (set a : ℕ) (g : Gathered) → StepsTo table set a (To g)
+step_passed : (table : List ℕ) (set a : ℕ) (g : Gathered) → StepsTo table set a (Ok g)
     → (unfit table ≡ false) × (set < 2 ^ states_of table)
 unfolding step_refusal
 step_passed table set a g (z, _) =
     let (fit, (on, _)) = first_passed 12 (step_checks table set a) (search arith) z in
     (fit, leb-false (2 ^ states_of table) set (or_none (leb (letters_of table) a) _ on).1)
 
-stepped : (table : List ℕ) (set a : ℕ) (g : Gathered) → StepsTo table set a (To g)
+stepped : (table : List ℕ) (set a : ℕ) (g : Gathered) → StepsTo table set a (Ok g)
     → Stands (states_of table) (LedTo (table_meaning table) (has set) (a ∷ [])) g.set × (g.rounds ≡ size (states_of table) (has set))
 stepped table set a g c =
     let (fit, h) = step_passed table set a g c in (
@@ -78,17 +74,17 @@ stepped table set a g c =
       ap (λ (g : Gathered). g.rounds) c.1,
     )
 
-pub few_rounds : (table : List ℕ) (set a : ℕ) (g : Gathered) → StepsTo table set a (To g) → g.rounds ≤ max_states
+pub few_rounds : (table : List ℕ) (set a : ℕ) (g : Gathered) → StepsTo table set a (Ok g) → g.rounds ≤ max_states
 few_rounds table set a g c =
     let (fit, h) = step_passed table set a g c in
     let n = states_of table in
     let e : g.rounds ≡ size n (has set) = ap (λ (g : Gathered). g.rounds) c.1 in
     omega (arith, e, ones_size n set h, ones-le n set h, (fitting table fit).states)
 
-step_taken : (table : List ℕ) (set a : ℕ) (s : Stepped) → unfit table ≡ false → set < 2 ^ states_of table → a < letters_of table
-    → StepsTo table set a s → s ≡ To (gathered_of (table_meaning table) set a)
-step_taken table set a (To g) fit h b (_, e) = ap To e
-step_taken table set a (a_step.Refused r) fit h b (e, n, _) = absurd (n (e ∙ step_passes table set a fit h b))
+step_taken : (table : List ℕ) (set a : ℕ) (s : Result Gathered Refusal) → unfit table ≡ false → set < 2 ^ states_of table
+    → a < letters_of table → StepsTo table set a s → s ≡ Ok (gathered_of (table_meaning table) set a)
+step_taken table set a (Ok g) fit h b (_, e) = ap Ok e
+step_taken table set a (Err r) fit h b (e, n, _) = absurd (n (e ∙ step_passes table set a fit h b))
 
 along : (table : List ℕ) (set : ℕ) (word : List ℕ) (last : ℕ) → unfit table ≡ false → set < 2 ^ states_of table
     → StepsAlong table set word last → Stands (states_of table) (LedTo (table_meaning table) (has set) word) last
@@ -101,7 +97,7 @@ along_starts table word last fit c = along table (initial_of table) word last fi
 
 -- WHOLE WALKS
 
-pub walked : (table word : List ℕ) (g : ℕ) (old out : List ℕ) → Walks table word (Upto g) old out
+pub walked : (table word : List ℕ) (g : ℕ) (old out : List ℕ) → Walks table word (Ok g) old out
     → Longest (table_meaning table) word g
     × ((i : ℕ) → i ≤ g → Stands (states_of table) (PossibleAt (table_meaning table) word i) (get_or out i 0))
     × (drop (suc g) out ≡ drop (suc g) old)
@@ -121,13 +117,13 @@ walked table word g old out (z, (e, is)) =
       simp (length-append, length-drop, size) (omega (arith, l.fits, room)),
     )
 
-pub to_its_end : (table word : List ℕ) (a : Walked) (old out : List ℕ) → unfit table ≡ false → OnPlan (table_meaning table) word
-    → length word < length old → Walks table word a old out → a ≡ Upto (length word)
+pub to_its_end : (table word : List ℕ) (a : Result ℕ Refusal) (old out : List ℕ) → unfit table ≡ false → OnPlan (table_meaning table) word
+    → length word < length old → Walks table word a old out → a ≡ Ok (length word)
 unfolding walk_refusal
-to_its_end table word (Upto g) old out fit o room c =
+to_its_end table word (Ok g) old out fit o room c =
     let S = table_meaning table in
-    ap Upto (longest_unique S word g (length word) (walked table word g old out c).0 (on_plan_longest S word o))
-to_its_end table word (Refused r) old out fit o room (e, n, _) =
+    ap Ok (longest_unique S word g (length word) (walked table word g old out c).0 (on_plan_longest S word o))
+to_its_end table word (Err r) old out fit o room (e, n, _) =
     let S = table_meaning table in
     let W = (fitting table fit).within in
     let (t, p) = o.spells in
@@ -136,7 +132,7 @@ to_its_end table word (Refused r) old out fit o room (e, n, _) =
     let some = any_in S.n S.initial o.start (W.initial_lt o.start o.from_it) o.from_it in
     absurd (n (e ∙ passed_first (walk_checks table word (length old)) (fit, (long, (on, (ap not some, tt))))))
 
-walk_along : (table word : List ℕ) (g : ℕ) (old out : List ℕ) → Walks table word (Upto g) old out
+walk_along : (table word : List ℕ) (g : ℕ) (old out : List ℕ) → Walks table word (Ok g) old out
     → (i last : ℕ) → i ≤ length word → StepsAlong table (initial_of table) (take i word) last
     → ((i ≤ g) ↔ ¬ (last ≡ 0))
     × (i ≤ g → (x : ℕ) → (has (get_or out i 0) x ≡ true) ↔ ((has last x ≡ true) × Spells (table_meaning table) x (drop i (take g word))))
@@ -208,7 +204,7 @@ stands_none n P empty = record {
 }
 
 empty_set : (table : List ℕ) (q a : ℕ) (word : List ℕ) (T : Critical) → named (table_meaning table) q a ≡ some T
-    → ((t : ℕ) → member (table_meaning table) T t ≡ false) → (v : Verdict) → Judges table q a word (Told v)
+    → ((t : ℕ) → member (table_meaning table) T t ≡ false) → (v : Verdict) → Judges table q a word (Ok v)
     → v ≡ verdict 0 false 0
 empty_set table q a word T name none v (_, tell) =
     let no : (t : ℕ) → ¬ (member (table_meaning table) T t ≡ true) = λ t e. false≢true (sym (none t) ∙ e) in

@@ -1,18 +1,18 @@
 -- The verdict on a look-ahead word (document 01; 003, Definition 2): refusals 8 and 12, or what the word tells of a critical set.
 -- Assumes nothing.
-use Rattle.std.specs.Prelude.{ℕ, ◌^◌, ◌<◌, Bool, true, false, ◌||◌, ◌↔◌, ◌≡◌, List, [], ◌∷◌}
+use Rattle.std.specs.Prelude.{ℕ, ◌^◌, ◌<◌, Bool, true, false, ◌||◌, ◌↔◌, ◌≡◌, List, [], ◌∷◌, Result}
 use Rattle.std.proofs.Math.Option.{Option, some, none}
 use Rattle.bitset.specs.Numbers.{has}
 use Rattle.semiautomata.specs.Semiautomaton.{Semiautomaton}
 use Rattle.semiautomata.specs.Predictability.{Critical, member, named}
 use Rattle.semiautomata.specs.Selectors.{Survives, MinimalSelector, MaximalNonselector}
 use Rattle.refusals.specs.Checks.{Check, first_of}
-use Rattle.refusals.specs.Outcomes.{Outcome, refused, answered, Gives}
+use Rattle.refusals.specs.Outcomes.{Gives}
+use Rattle.refusals.specs.Named.{outcome_of}
+use Rattle.refusals.specs.declared.Refusal.{Refusal}
 use Rattle.table.specs.Table.{letters_of, table_meaning, table_check}
 use Rattle.walks.specs.Walking.{letter_off}
 use Rattle.simulate.specs.declared.Verdict.{Verdict}
-use Rattle.simulate.specs.declared.Judged.{Judged}
-use Rattle.simulate.specs.declared.Judged.TheVariants.{Told, Refused}
 
 -- 12: the numbers name no critical set, or some letter of the word is not below m.
 abbrev pub unnamed : Option Critical → Bool
@@ -39,14 +39,9 @@ pub record Tells (S : Semiautomaton) (T : Critical) (word : List ℕ) (v : Verdi
   pub minimal : (v.minimal ≡ true) ↔ MinimalSelector S (member S T) word
   pub nonselected : Stands S.n (MaximalNonselector S (member S T) word) v.nonselected
 
--- What a verdict answers: the two sets, and whether the word is a minimal selector.
-abbrev pub outcome_of_judged : Judged → Outcome Verdict
-outcome_of_judged (Told v) = answered v
-outcome_of_judged (Refused r) = refused r
-
 -- The verdict on a word for the critical set that two numbers name.
 abbrev pub TellsOf : List ℕ → ℕ → ℕ → List ℕ → Verdict → Type 0
 TellsOf table q a word v = (T : Critical) → named (table_meaning table) q a ≡ some T → Tells (table_meaning table) T word v
 
-abbrev pub Judges : List ℕ → ℕ → ℕ → List ℕ → Judged → Type 0
-Judges table q a word r = Gives (verdict_refusal table q a word) Unit (TellsOf table q a word) (outcome_of_judged r)
+abbrev pub Judges : List ℕ → ℕ → ℕ → List ℕ → Result Verdict Refusal → Type 0
+Judges table q a word r = Gives (verdict_refusal table q a word) Unit (TellsOf table q a word) (outcome_of r)

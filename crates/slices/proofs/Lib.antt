@@ -1,4 +1,4 @@
-pub mod Copying
 pub mod Parts
 pub mod Appending
 pub mod Each
+pub mod Putting

@@ -1,42 +1,33 @@
-// Copying into a lent slice that keeps its rest, for each width of element; and bytes put one after the other.
+// Copying into a lent slice that keeps its rest; and a lent buffer that is filled from its front, one thing after the other.
 #![tactic(auto)]
 
 ghost use Rattle.std.specs.Prelude.{◌≡◌, ◌≤◌, length};
 ghost use Rattle.slices.specs.Copying.{at_front};
-ghost use Rattle.slices.specs.Appending.{Room, Appended};
+ghost use Rattle.slices.specs.Filling.{HasRoom, Puts};
 
-pub fn copy_8(out: &mut [u8], bytes: &[u8])
-    requires { length bytes.now ≤ length out.old }
-    ensures { out.new ≡ at_front bytes.now out.old }
+#[inline(always)]
+pub fn copy<T: Copy>(out: &mut [T], items: &[T])
+    requires { length items.now ≤ length out.old }
+    ensures { out.new ≡ at_front items.now out.old }
 {
-    for i in 0..bytes.len() {
-        out[i] = bytes[i];
-    }
+    out[..items.len()].copy_from_slice(items);
 }
 
-pub fn copy_32(out: &mut [u32], numbers: &[u32])
-    requires { length numbers.now ≤ length out.old }
-    ensures { out.new ≡ at_front numbers.now out.old }
-{
-    for i in 0..numbers.len() {
-        out[i] = numbers[i];
-    }
+// A lent buffer that is filled from its front, and how far it is filled.
+#[derive(Drop)]
+pub struct Filling<'a> {
+    pub out: &'a mut [u8],
+    pub at: usize,
 }
 
-pub fn copy_64(out: &mut [u64], sets: &[u64])
-    requires { length sets.now ≤ length out.old }
-    ensures { out.new ≡ at_front sets.now out.old }
-{
-    for i in 0..sets.len() {
-        out[i] = sets[i];
+impl<'a> Filling<'a> {
+    #[inline(always)]
+    #[tactic(auto, unfolding(crate::specs::Filling::filled))]
+    pub fn put(&mut self, bytes: &[u8])
+        requires { HasRoom self.old bytes.now }
+        ensures { Puts self.old bytes.now self.new }
+    {
+        copy(&mut self.out[self.at..], bytes);
+        self.at += bytes.len();
     }
-}
-
-// Bytes at a place; the answer is the place behind them.
-pub fn append(out: &mut [u8], at: usize, bytes: &[u8]) -> usize
-    requires { Room out.old at bytes.now }
-    ensures { Appended out.old at bytes.now result out.new }
-{
-    copy_8(&mut out[at..], bytes);
-    at + bytes.len()
 }

@@ -1,6 +1,6 @@
 -- Where a report stands, and its steps: which call comes next. The bytes that are read go into one buffer, and a step is lent its front.
 -- Assumes nothing.
-use Rattle.std.specs.Prelude.{ℕ, ◌≤◌, ◌<◌, ◌⊎◌, ◌≡◌, List, [], ◌++◌, length, take}
+use Rattle.std.specs.Prelude.{ℕ, ◌≤◌, ◌<◌, ◌⊎◌, ◌≡◌, List, [], ◌++◌, length, take, Some}
 use Rattle.text.specs.declared.Printed.TheVariants.{Going, Ended}
 use Rattle.steps.specs.declared.Stage.{Stage}
 use Rattle.steps.specs.declared.Stage.TheVariants.{Plan, Letters, Over}
@@ -32,13 +32,13 @@ pub data Steps (input table bytes old : List ℕ) : Stage → ℕ → Stage → 
       → Steps input table bytes old (Plan from upto) 0 (Plan (length input) (wanted input)) table bytes old
   -- all of it is there, or nothing came and the input is at its end: the first lines, and then the walk goes on or nothing follows
   begins : {from upto : ℕ} → (length input ≤ from) ⊎ (wanted input ≤ length input) → {r : ℕ} {table' left out : List ℕ}
-      → Begins input table bytes (Going r) table' left old out → Steps input table bytes old (Plan from upto) r Letters table' left out
+      → Begins input table bytes (Some (Going r)) table' left old out → Steps input table bytes old (Plan from upto) r Letters table' left out
   begins_last : {from upto : ℕ} → (length input ≤ from) ⊎ (wanted input ≤ length input) → {r : ℕ} {table' left out : List ℕ}
-      → Begins input table bytes (Ended r) table' left old out → Steps input table bytes old (Plan from upto) r Over table' left out
+      → Begins input table bytes (Some (Ended r)) table' left old out → Steps input table bytes old (Plan from upto) r Over table' left out
   -- letters came: their lines, and the walk goes on; or a refusal ends it, and the open lines follow
-  feeds : 0 < length input → {r : ℕ} {left out : List ℕ} → FeedsPart table bytes input (Going r) left old out
+  feeds : 0 < length input → {r : ℕ} {left out : List ℕ} → FeedsPart table bytes input (Some (Going r)) left old out
       → Steps input table bytes old Letters r Letters table left out
-  feeds_last : {at r : ℕ} {left mid out : List ℕ} → FeedsPart table bytes input (Ended at) left old mid
+  feeds_last : {at r : ℕ} {left mid out : List ℕ} → FeedsPart table bytes input (Some (Ended at)) left old mid
       → Appended mid at (open_on table left) r out → Steps input table bytes old Letters r Over table left out
   -- none came: the input is at its end, and the open lines follow
   finishes : length input ≡ 0 → {r : ℕ} {out : List ℕ} → Appended old 0 (open_on table bytes) r out

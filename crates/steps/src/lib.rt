@@ -9,7 +9,13 @@ ghost use Rattle.steps.specs.Steps.{read_from, read_upto, Readable, Steps};
 
 use text::Printed;
 
-// Where a report stands: its plan is read up to a place, its letters are, or it is over.
+// So many letters are read at once, at the most; and the bytes that their lines and the open lines may take.
+const LETTERS: usize = 4096;
+
+pub const OUT_SIZE: usize = LETTERS * text::LETTER_WIDTH + text::OPEN_LINES;
+
+// Where a report stands: its plan is read up to a place, its letters are, or it is over. Not a type for each stage: the program keeps one
+// value between its reads, and a read at any stage does the same.
 #[derive(Clone, Copy)]
 pub enum Stage {
     Plan { from: usize, upto: usize },
@@ -23,6 +29,12 @@ pub struct Next {
     pub count: usize,
     pub stage: Stage,
 }
+
+// Nothing is written, and nothing follows.
+const NOTHING: Next = Next {
+    count: 0,
+    stage: Stage::Over,
+};
 
 pub fn first() -> Stage
     ensures { result ≡ Plan 0 16 }
@@ -46,7 +58,7 @@ pub fn upto(stage: Stage) -> usize
 {
     match stage {
         Stage::Plan { from: _, upto } => upto,
-        Stage::Letters => 4096,
+        Stage::Letters => LETTERS,
         Stage::Over => 0,
     }
 }
@@ -56,12 +68,7 @@ fn finish_at(table: &[u64], rec: &[u8], out: &mut [u8], at: usize) -> usize
     requires { at + open_width * most_sets ≤ length out.old }
     ensures { Appended out.old at (open_on table.now rec.now) result out.new }
 {
-    let printed = text::finish(table, rec, &mut out[at..]);
-    match printed {
-        Printed::Going(count) => at + count,
-        Printed::Ended(count) => at + count,
-        Printed::Short => at,
-    }
+    at + text::finish(table, rec, &mut out[at..]).unwrap_or(0) // enough is lent: never None
 }
 
 // The plan is read: on, or it is all there, or the input is at its end.
@@ -70,34 +77,30 @@ fn step_plan(
     upto: usize,
     input: &[u8],
     table: &mut [u64; table::MAX_TABLE],
-    rec: &mut [u8; 2024],
-    out: &mut [u8; 551904],
+    rec: &mut [u8; text::RECORD_SIZE],
+    out: &mut [u8; OUT_SIZE],
 ) -> Next
     ensures { Steps input.now table.old rec.old out.old
         (Plan from upto) result.count result.stage table.new rec.new out.new × Readable result.stage }
 {
     let end = inputs::wanted(input);
-    if (from < input.len()) & (input.len() < end) {
+    if from < input.len() && input.len() < end {
         let stage = Stage::Plan {
             from: input.len(),
             upto: end,
         };
         return Next { count: 0, stage };
     }
-    let printed = text::begin(input, table, rec, out);
-    match printed {
-        Printed::Going(count) => Next {
+    match text::begin(input, table, rec, out) {
+        Some(Printed::Going(count)) => Next {
             count,
             stage: Stage::Letters, // the letters are read next
         },
-        Printed::Ended(count) => Next {
+        Some(Printed::Ended(count)) => Next {
             count,
             stage: Stage::Over,
         },
-        Printed::Short => Next {
-            count: 0,
-            stage: Stage::Over,
-        },
+        None => NOTHING, // enough is lent
     }
 }
 
@@ -105,37 +108,29 @@ fn step_plan(
 fn step_letters(
     input: &[u8],
     table: &[u64; table::MAX_TABLE],
-    rec: &mut [u8; 2024],
-    out: &mut [u8; 551904],
+    rec: &mut [u8; text::RECORD_SIZE],
+    out: &mut [u8; OUT_SIZE],
 ) -> Next
     requires { length input.now ≤ 4096 }
     ensures { Steps input.now table.now rec.old out.old
         Letters result.count result.stage table.now rec.new out.new × Readable result.stage }
 {
-    if input.len() == 0 {
-        let count = finish_at(table, rec, out, 0);
+    if input.is_empty() {
         return Next {
-            count,
+            count: finish_at(table, rec, out, 0),
             stage: Stage::Over, // nothing follows the open lines
         };
     }
-    let printed = text::feed(table, rec, input, out);
-    match printed {
-        Printed::Going(count) => Next {
+    match text::feed(table, rec, input, out) {
+        Some(Printed::Going(count)) => Next {
             count,
             stage: Stage::Letters,
         },
-        Printed::Ended(at) => {
-            let count = finish_at(table, rec, out, at);
-            Next {
-                count,
-                stage: Stage::Over, // letters behind a refusal are not read
-            }
-        }
-        Printed::Short => Next {
-            count: 0,
-            stage: Stage::Over,
+        Some(Printed::Ended(at)) => Next {
+            count: finish_at(table, rec, out, at),
+            stage: Stage::Over, // letters behind a refusal are not read
         },
+        None => NOTHING, // enough is lent
     }
 }
 
@@ -144,8 +139,8 @@ pub fn step(
     stage: Stage,
     input: &[u8],
     table: &mut [u64; table::MAX_TABLE],
-    rec: &mut [u8; 2024],
-    out: &mut [u8; 551904],
+    rec: &mut [u8; text::RECORD_SIZE],
+    out: &mut [u8; OUT_SIZE],
 ) -> Next
     requires { length input.now ≤ read_upto stage }
     ensures { Steps input.now table.old rec.old out.old
@@ -154,9 +149,6 @@ pub fn step(
     match stage {
         Stage::Plan { from, upto } => step_plan(from, upto, input, table, rec, out),
         Stage::Letters => step_letters(input, table, rec, out),
-        Stage::Over => Next {
-            count: 0,
-            stage: Stage::Over,
-        },
+        Stage::Over => NOTHING,
     }
 }

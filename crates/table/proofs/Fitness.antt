@@ -1,7 +1,7 @@
 -- What refusal 8 leaves: a table that is fit, and how its tests come to that.
 -- Assumes nothing.
 use Prim.Native.Nat.{ℕ, zero, suc, ◌+◌, ◌-◌, ◌*◌, ◌/◌, ◌^◌, ◌≤◌, ◌<◌}
-use mathlib.Core.Bool.{Bool, true, false, not, ◌&&◌, ◌||◌, true≢false, false≢true}
+use mathlib.Core.Bool.{Bool, true, false, not, ◌&&◌, ◌||◌, false≢true}
 use mathlib.Core.Path.{◌≡◌, refl, sym, ◌∙◌, ap}
 use mathlib.Core.Logic.{inl, inr}
 use mathlib.Core.List.{List}
@@ -19,7 +19,7 @@ use Rattle.bitset.proofs.Below.{any_in, any_none, any_not}
 use Rattle.bitset.proofs.Bits.{has_high, fits, mask_set_of, and_mask_fits, fits_and_mask}
 use Rattle.semiautomata.specs.Semiautomaton.{Within}
 use Rattle.semiautomata.specs.Successors.{Fit}
-use Rattle.semiautomata.proofs.Successors.{fit_within}
+use Rattle.semiautomata.proofs.BySets.{fit_within}
 use Rattle.semiautomata.specs.Sizes.{max_states, max_letters, max_lookahead}
 use Rattle.table.specs.Table.{states_of, letters_of, lookahead_of, initial_of, sets_from, sets_of, table_meaning, unfit}
 
@@ -80,6 +80,10 @@ fitting table e =
     (ltb-false _ _ t4) (leb-false _ _ t5)
     (λ i h. leb-false _ _ (any_not _ (λ i. leb (2 ^ states_of table) (get_or (sets_of table) i 0)) t6 i h))
 
+-- the numbers at the front are there
+pub front_there : (table : List ℕ) {told : Bool} → told ≡ unfit table → told ≡ false → sets_from ≤ length table
+front_there table e z = omega (arith, (fitting table (sym e ∙ z)).room)
+
 pub fitting_fit : {table : List ℕ} → Fitting table → unfit table ≡ false
 unfolding unfit
 fitting_fit {table} f =
@@ -100,31 +104,7 @@ fitting_fit {table} f =
 pub refused : (table : List ℕ) → (Fitting table → ⊥) → unfit table ≡ true
 refused table h = elim (decided (unfit table)) [ inl e ↦ e | inr e ↦ absurd (h (fitting table e)) ]
 
--- THE CODE'S TESTS
-
--- n or m out of range
-abbrev outside : ℕ → ℕ → Bool
-outside n m = ltb n 1 || ltb 64 n || ltb m 1 || ltb 32 m
-
-pub fitting_inside : {table : List ℕ} → Fitting table → outside (states_of table) (letters_of table) ≡ false
-fitting_inside {table} f = rw (
-  le-ltb (states_of table) 1 f.some_state,
-  le-ltb 64 (states_of table) f.states,
-  le-ltb (letters_of table) 1 f.some_letter,
-  le-ltb 32 (letters_of table) f.letters,
-)
-
-pub inside : (table : List ℕ) → outside (states_of table) (letters_of table) ≡ false → Ranged table
-inside table e =
-    let (e, d) = or_none _ _ e in
-    let (e, c) = or_none _ _ e in
-    let (a, b) = or_none _ _ e in
-    record { some_state = ltb-false _ _ a; states = ltb-false _ _ b; some_letter = ltb-false _ _ c; letters = ltb-false _ _ d }
-
--- no product wraps
-pub cells_le : {table : List ℕ} → Ranged table → states_of table * letters_of table ≤ max_states * max_letters
-cells_le r = mul-le-mul r.states r.letters
-
+-- no product of n and n - 1 is too great
 pub pairs_le : (n : ℕ) → n ≤ max_states → n * (n - 1) ≤ 2 * max_lookahead
 pairs_le n h = let g : n - 1 ≤ 63 = omega arith in mul-le-mul h g
 

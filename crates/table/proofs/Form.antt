@@ -1,21 +1,21 @@
 -- Laws of the prepared form: what is written is the form, and what the form means.
 -- Assumes nothing.
-use Prim.Native.Nat.{ℕ, ◌+◌, ◌*◌, ◌^◌, ◌≤◌, ◌<◌}
+use Prim.Native.Nat.{ℕ, ◌+◌, ◌-◌, ◌*◌, ◌^◌, ◌≤◌, ◌<◌}
 use mathlib.Core.Bool.{Bool, true, false}
 use mathlib.Core.Path.{◌≡◌, refl, sym, ◌∙◌, ap}
-use mathlib.Core.List.{List, [], ◌∷◌, ◌++◌, append_assoc}
-use native.Mathlib.Numerals.{add-one}
+use mathlib.Core.List.{List, [], ◌∷◌, ◌++◌}
 use native.Mathlib.Omega.{arith}
 use lib.Dec.{ltb}
 use lib.ListN.{length, get_or, take, drop, set, length-append, get_or-append, take-append-drop}
-use lib.Seq.{sets-eq, drop_at, drop-drop, get_or-take, length-take-le, paste, paste-zero, paste-suc, length-paste}
+use borrow.Rule.Slice.PartMut.{put_mid}
+use lib.Seq.{sets-eq, drop-drop, get_or-take, length-take-le}
 use borrow.Author.Tests.{lt-ltb}
 use Rattle.bitset.specs.Numbers.{has, set_of}
 use Rattle.bitset.proofs.Bits.{set_of_lt, set_of_has, set_of_cong, has_set_of}
 use Rattle.bitset.proofs.Tests.{and_out, same_test}
 use Rattle.semiautomata.specs.Semiautomaton.{Semiautomaton}
 use Rattle.semiautomata.specs.Successors.{place, successors, Fit}
-use Rattle.semiautomata.proofs.Successors.{place_lt, edge_is, successors_are, state_lt, letter_lt, place_of_lem}
+use Rattle.semiautomata.proofs.BySets.{place_lt, edge_is, successors_are, state_lt, letter_lt, place_of_lem}
 use Rattle.table.specs.Table.{states_of, letters_of, lookahead_of, initial_of, sets_from, sets_of, table_meaning, unfit}
 use Rattle.table.specs.Table.{sets_in_order, Contents, contents, contents_of, table_of, laid_out, Preparable}
 use Rattle.table.proofs.Listed.{rows_length, rows_at, rows_are}
@@ -40,33 +40,13 @@ module _ (n m k starts : ℕ) (sets : List ℕ) (f : Fit n m sets) (h : starts <
       (λ i. n ∷ m ∷ k ∷ sym (set_of_has n starts h) i ∷ sets_in_order_lem i ++ drop (sets_from + n * m) old)
       ∙ ap (λ (c : ℕ). table_of C ++ drop c old) (sym (form_length_lem C))
 
--- THE WRITING
-
-pasted : (at : ℕ) (old sets : List ℕ) (i : ℕ) → at ≤ length old → drop at (paste old at sets i) ≡ take i sets ++ drop (at + i) old
-pasted at old sets i h = rw append_assoc (drop_at (take at old) _ at (length-take-le at old h))
-
--- the first i sets are copied into the table
-pub record Copied (old sets : List ℕ) (i : ℕ) (table : List ℕ) : Type 0 where
-  pub is : table ≡ paste old sets_from sets i
-  pub long : length table ≡ length old
-
-pub copied_none : (old sets : List ℕ) → Copied old sets 0 old
-copied_none old sets = record { is = paste-zero old sets_from sets; long = refl }
-
-module _ {old sets : List ℕ} {i : ℕ} {table : List ℕ} (o : Copied old sets i table) where
-  pub copied_next : sets_from + i < length old → i < length sets → Copied old sets (i + 1) (set table (sets_from + i) (get_or sets i 0))
-  copied_next h g =
-      let e : set table (sets_from + i) (get_or sets i 0) ≡ paste old sets_from sets (i + 1) =
-      rw (add-one, o.is) (paste-suc old sets_from sets i 0 h g) in
-      record { is = e; long = rw e (length-paste old sets_from sets (i + 1) (omega arith) (omega arith)) }
-
-  -- and the four numbers at the front
-  pub copied_all : (n m k starts : ℕ) → i ≡ n * m → Fit n m sets → starts < 2 ^ n → sets_from + n * m ≤ length old
-      → set (set (set (set table 0 n) 1 m) 2 k) 3 starts ≡ laid_out (contents (successors n m starts sets) k) old
-  copied_all n m k starts e f b h =
-      sets-eq (n ∷ m ∷ k ∷ starts ∷ []) table 0 (omega (arith, o.long))
-      ∙ ap (λ (l : List ℕ). n ∷ m ∷ k ∷ starts ∷ l) (ap (drop sets_from) o.is ∙ pasted sets_from old sets i (omega arith) ∙ rw e)
-      ∙ laid n m k starts sets f b old
+  -- what code writes: the four numbers at the front and, behind them, the sets
+  pub written : (old : List ℕ) {copied : List ℕ} → sets_from + n * m ≤ length old → copied ≡ take (n * m) sets
+      → put_mid sets_from (sets_from + n * m - sets_from) (set (set (set (set old 0 n) 1 m) 2 k) 3 starts) copied
+      ≡ laid_out (contents (successors n m starts sets) k) old
+  written old room e =
+      let c : sets_from + n * m - sets_from ≡ n * m = omega arith in
+      rw (c, sets-eq (n ∷ m ∷ k ∷ starts ∷ []) old 0 (omega arith), e, drop-drop (n * m) sets_from old) (laid old)
 
 -- A FIT TABLE
 

@@ -9,7 +9,7 @@ use lib.ListN.{length, get_or, length-append, get_or-append}
 use lib.Seq.{ext_get_or, get_or-append-add}
 use Rattle.semiautomata.specs.Lists.{range}
 use Rattle.semiautomata.specs.Successors.{place}
-use Rattle.semiautomata.proofs.Successors.{state_lt, letter_lt, place_of_lem}
+use Rattle.semiautomata.proofs.BySets.{state_lt, letter_lt, place_of_lem}
 
 module _ (f : ℕ → ℕ) where
   pub listed_length : (p c : ℕ) → length (map f (range p c)) ≡ c

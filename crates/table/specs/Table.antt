@@ -1,6 +1,6 @@
 -- The prepared plan of document 01, a list of 64-bit numbers: n, m, k, the starts, then at 4 + stake × m + code the set of stakes led to.
 -- Assumes nothing.
-use Rattle.std.specs.Prelude.{ℕ, ◌+◌, ◌*◌, ◌^◌, ◌≤◌, Bool, true, false, not, cond, ◌||◌, ltb, leb, length, get_or, drop}
+use Rattle.std.specs.Prelude.{ℕ, ◌+◌, ◌*◌, ◌^◌, ◌≤◌, Bool, false, not, ◌||◌, ltb, leb, length, get_or, drop}
 use mathlib.Core.List.{List, [], ◌∷◌, ◌++◌, map, flat_map}
 use Rattle.bitset.specs.Sets.{any}
 use Rattle.bitset.specs.Numbers.{set_of}
@@ -9,7 +9,6 @@ use Rattle.semiautomata.specs.Sizes.{max_states, max_letters, most_ahead, Sized}
 use Rattle.refusals.specs.Checks.{Check, within}
 use Rattle.semiautomata.specs.Lists.{range}
 use Rattle.semiautomata.specs.Successors.{successors}
-use Rattle.table.specs.declared.Head.{Head}
 
 -- WHAT A TABLE MEANS
 
@@ -71,16 +70,6 @@ unfit table = one_of (table_tests table)
 -- .. as a call's check.
 abbrev pub table_check : List ℕ → Check
 table_check table = record { number = 8; applies = unfit table }
-
--- The head of a table: that it is fit, n, m, k and the set of initial states; zeros where refusal 8 applies.
-abbrev pub front : List ℕ → Head
-front table = record { fit = true; n = states_of table; m = letters_of table; k = lookahead_of table; starts = initial_of table }
-
-abbrev pub unread : Head
-unread = record { fit = false; n = 0; m = 0; k = 0; starts = 0 }
-
-abbrev pub head_of : List ℕ → Head
-head_of table = cond (unfit table) unread (front table)
 
 -- THE PREPARED FORM
 

@@ -1,12 +1,16 @@
-// The prepared plan (document 01) as a table of 64-bit numbers. `head_of` is the one door to a table: it tests refusal 8 and reads the
-// front; the sets behind it are lent on as `&table[SETS_FROM..]`. `write` lays a table out.
+// The prepared plan (document 01) as a table of 64-bit numbers. `head_of` is the one door to a table: it tests refusal 8 and lends the plan
+// on by its successor sets. `write` lays a table out.
 #![tactic(auto)]
 
-ghost use Rattle.std.specs.Prelude.{◌≡◌, ℕ, ◌+◌, ◌*◌, ◌^◌, ◌≤◌, ◌<◌, length, get_or};
+ghost use Rattle.std.specs.Prelude.{◌≡◌, ℕ, ◌+◌, ◌*◌, ◌≤◌, length, get_or};
 ghost use Rattle.bitset.specs.Sets.{any};
 ghost use Rattle.bitset.specs.Numbers.{has};
-ghost use Rattle.semiautomata.specs.Successors.{successors, Fit};
-ghost use Rattle.table.specs.Table.{sets_from, unfit, head_of, contents, laid_out};
+ghost use Rattle.semiautomata.specs.Means.{means};
+ghost use Rattle.table.specs.Table.{sets_from, unfit, contents, laid_out};
+ghost use Rattle.table.specs.Heads.{Heads};
+
+use refusals::Refusal;
+use semiautomata::successors::Successors;
 
 // Where the sets begin; n, m, k and the initial states stand before them.
 pub const SETS_FROM: usize = 4;
@@ -14,23 +18,20 @@ pub const SETS_FROM: usize = 4;
 // The most numbers of a table.
 pub const MAX_TABLE: usize = SETS_FROM + semiautomata::MAX_SETS;
 
-// What stands at the front of a fit table; zeros of an unfit one.
-#[derive(Drop)]
-pub struct Head {
-    pub fit: bool,
-    pub n: usize,
-    pub m: usize,
+// What a fit table holds: the plan, whose successor sets are lent from it, and the look-ahead.
+#[derive(Clone, Copy)]
+pub struct Head<'a> {
+    pub succ: Successors<'a>,
     pub k: usize,
-    pub starts: u64,
 }
 
 // All numbers of a slice joined.
 fn union_of(sets: &[u64]) -> u64
     ensures { (t : ℕ) → has result t ≡ any (length sets.now) (λ i. has (get_or sets.now i 0) t) }
 {
-    let mut all: u64 = 0;
-    for i in 0..sets.len() {
-        all = all | sets[i];
+    let mut all = 0;
+    for set in sets {
+        all |= set;
     }
     all
 }
@@ -44,10 +45,10 @@ fn is_unfit(table: &[u64]) -> bool
     }
     let n = table[0];
     let m = table[1];
-    if (n < 1)
-        | (n > semiautomata::MAX_STATES as u64)
-        | (m < 1)
-        | (m > semiautomata::MAX_LETTERS as u64)
+    if n < 1
+        || n > semiautomata::MAX_STATES as u64
+        || m < 1
+        || m > semiautomata::MAX_LETTERS as u64
     {
         return true;
     }
@@ -57,40 +58,37 @@ fn is_unfit(table: &[u64]) -> bool
     }
     let all = union_of(&table[3..end]);
     let mask = bitset::mask(n as u32);
-    (n * (n - 1) / 2 < table[2]) | (all & mask != all)
+    n * (n - 1) / 2 < table[2] || all & mask != all
 }
 
-pub fn head_of(table: &[u64]) -> Head
-    ensures { result ≡ head_of table.now }
+#[tactic(auto, using(crate::proofs::Fitness::front_there))]
+pub fn head_of(table: &[u64]) -> Result<Head, Refusal>
+    ensures { Heads table.now result }
 {
     if is_unfit(table) {
-        return Head {
-            fit: false,
-            n: 0,
-            m: 0,
-            k: 0,
-            starts: 0,
-        };
+        return Err(Refusal::Table);
     }
-    Head {
-        fit: true,
+    let succ = Successors {
         n: table[0] as usize,
         m: table[1] as usize,
-        k: table[2] as usize,
         starts: table[3],
-    }
+        sets: &table[SETS_FROM..],
+    };
+    Ok(Head {
+        succ,
+        k: table[2] as usize,
+    })
 }
 
-// The form for n states, m letters, look-ahead k, initial states and successor sets, into a table that keeps its rest.
-pub fn write(table: &mut [u64], n: usize, m: usize, k: u64, starts: u64, sets: &[u64])
-    requires { Fit n m sets.now × (starts < 2 ^ n) × (sets_from + n * m ≤ length table.old) }
-    ensures { table.new ≡ laid_out (contents (successors n m starts sets.now) k) table.old }
+// The form for a plan and its look-ahead k, into a table that keeps its rest.
+pub fn write(table: &mut [u64], succ: &Successors, k: u64)
+    requires { sets_from + succ.now.n * succ.now.m ≤ length table.old }
+    ensures { table.new ≡ laid_out (contents (means succ.now) k) table.old }
 {
-    for i in 0..n * m {
-        table[SETS_FROM + i] = sets[i];
-    }
-    table[0] = n as u64;
-    table[1] = m as u64;
+    let cells = succ.n * succ.m;
+    table[0] = succ.n as u64;
+    table[1] = succ.m as u64;
     table[2] = k;
-    table[3] = starts;
+    table[3] = succ.starts;
+    table[SETS_FROM..SETS_FROM + cells].copy_from_slice(&succ.sets[..cells]);
 }

@@ -1,30 +1,31 @@
 -- What each call on a table promises for C: some answer meets the promise of the call that it stands for, and its numbers are passed on.
 -- Without room for further values: 8 or 9.
 -- Assumes nothing.
-use Rattle.std.specs.Prelude.{ℕ, ◌≡◌, List, [], ◌∷◌}
+use Rattle.std.specs.Prelude.{ℕ, ◌≡◌, List, [], ◌∷◌, Result}
 use Rattle.bitset.specs.Sets.{one_if}
 use Rattle.table.specs.Table.{table_check}
-use Rattle.simulate.specs.declared.Stepped.{Stepped}
-use Rattle.simulate.specs.Stepping.{StepsTo, outcome_of_stepped}
-use Rattle.simulate.specs.declared.Walked.{Walked}
-use Rattle.simulate.specs.Walking.{Walks, outcome_of_walked}
-use Rattle.simulate.specs.declared.Judged.{Judged}
-use Rattle.simulate.specs.Verdicts.{Judges, outcome_of_judged}
+use Rattle.refusals.specs.Named.{outcome_of}
+use Rattle.refusals.specs.declared.Refusal.{Refusal}
+use Rattle.walks.specs.declared.Gathered.{Gathered}
+use Rattle.simulate.specs.declared.Verdict.{Verdict}
+use Rattle.simulate.specs.Stepping.{StepsTo}
+use Rattle.simulate.specs.Walking.{Walks}
+use Rattle.simulate.specs.Verdicts.{Judges}
 use Rattle.numbers.specs.Numbers.{Numbers, valued, in_numbers, PassesOn}
 
 -- THE NUMBERS OF EACH OUTCOME
 
 -- The rounds; the set led to.
-abbrev pub of_stepped : Stepped → Numbers
-of_stepped a = in_numbers (λ g. valued g.rounds (g.set ∷ [])) (outcome_of_stepped a)
+abbrev pub of_stepped : Result Gathered Refusal → Numbers
+of_stepped a = in_numbers (λ g. valued g.rounds (g.set ∷ [])) (outcome_of a)
 
 -- 0; g.
-abbrev pub of_walked : Walked → Numbers
-of_walked a = in_numbers (λ g. valued 0 (g ∷ [])) (outcome_of_walked a)
+abbrev pub of_walked : Result ℕ Refusal → Numbers
+of_walked a = in_numbers (λ g. valued 0 (g ∷ [])) (outcome_of a)
 
 -- 1 for a minimal selector, else 0; the states that can walk the word, and those of which it is a maximal nonselector.
-abbrev pub of_judged : Judged → Numbers
-of_judged a = in_numbers (λ v. valued (one_if v.minimal) (v.survivors ∷ v.nonselected ∷ [])) (outcome_of_judged a)
+abbrev pub of_judged : Result Verdict Refusal → Numbers
+of_judged a = in_numbers (λ v. valued (one_if v.minimal) (v.survivors ∷ v.nonselected ∷ [])) (outcome_of a)
 
 -- THE PROMISES
 

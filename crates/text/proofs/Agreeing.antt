@@ -4,8 +4,9 @@ use Prim.Native.Nat.{ℕ, ◌+◌, ◌^◌, ◌≤◌, ◌<◌}
 use mathlib.Core.Bool.{true, false, ◌||◌, true≢false}
 use mathlib.Core.Path.{◌≡◌, refl, sym, ◌∙◌, ap}
 use mathlib.Core.Logic.{◌⊎◌, inl, inr}
-use mathlib.Core.List.{List, [], ◌∷◌, ◌++◌, append-nil, map}
+use mathlib.Core.List.{List, [], ◌∷◌, ◌++◌, map}
 use native.Mathlib.Omega.{arith}
+use Rattle.std.specs.Prelude.{Option, None, Some, Ok}
 use lib.Dec.{ltb}
 use lib.ListN.{length}
 use borrow.Author.Tests.{le-ltb}
@@ -25,12 +26,12 @@ use Rattle.table.specs.Table.{lookahead_of, table_meaning, unfit}
 use Rattle.table.proofs.Fitness.{fitting, lookahead_le}
 use Rattle.records.specs.Bytes.{held_from, decode}
 use Rattle.predictor.specs.Calls.{written, opened_on, fed_on, ended}
-use Rattle.deciding.specs.Replies.{is_refusal}
+use Rattle.deciding.specs.declared.Resolution.{Resolution}
+use Rattle.deciding.specs.Replies.{said, is_refusal}
 use Rattle.predictor.proofs.Ending.{end_0}
 use Rattle.predictor.proofs.Following.{Holds, Small, encode_holds, written_holds, feed_keeps, opened_is, fed_is, follows_small}
-use Rattle.slices.specs.Appending.{Appended}
 use Rattle.text.specs.Report.{reply_text, walk_text, plain_open, plain_text, AfterLookahead, no_start, walked}
-use Rattle.text.specs.Calls.{most_sets, record_size, open_on, walk_on, Laid}
+use Rattle.text.specs.Calls.{most_sets, record_size, open_on, walk_on}
 
 -- two walks whose calls agree print the same
 module _ {A B : Type 0} (R : A → B → Type 0) (f : A → ℕ → Result A) (g : B → ℕ → Result B) (ends : A → List ℕ) (ends' : B → List ℕ)
@@ -147,8 +148,7 @@ module _ (table : List ℕ) (fit : unfit table ≡ false) (L : Lookahead (table_
 
   -- what opening prints
   module _ (bytes : List ℕ) (room : record_size ≤ length bytes) {reply : Reply} (said : reply ≡ (opened_on table bytes).reply) {left : List ℕ}
-      (state : left ≡ (opened_on table bytes).state)
-      {old : List ℕ} {at r : ℕ} {out : List ℕ} (p : Appended old at (reply_text reply) r out) where
+      (state : left ≡ (opened_on table bytes).state) where
     none_refused : ((s : ℕ) → S.initial s ≡ false) → reply ≡ refused 13
     none_refused none = said ∙ ap (λ (x : Result (List ℕ)). x.reply) (opened_is table fit bytes (omega (arith, small_k)))
         ∙ opened_none S k none
@@ -162,18 +162,19 @@ module _ (table : List ℕ) (fit : unfit table ≡ false) (L : Lookahead (table_
         go (resolved i x) h d = true≢false (sym h)
         go nothing h d = true≢false (sym h)
 
-    pub opened_goes : is_refusal reply ≡ false → Laid (AfterLookahead S k) old at r out (walk_on table left)
-    opened_goes e = record { text = reply_text reply; put = p; follows = λ letters. go letters some_start }
-      where
-        go : (letters : List ℕ) → ((s : ℕ) × (S.initial s ≡ true)) ⊎ ((s : ℕ) → S.initial s ≡ false)
-            → AfterLookahead S k letters (reply_text reply ++ walk_on table left letters)
-        go letters (inl (s, i)) = rw (said, state, opened_text s i bytes room letters) (walked s i)
-        go letters (inr none) = absurd (true≢false (sym (ap is_refusal (none_refused none)) ∙ e))
+    pub opened_goes : is_refusal reply ≡ false → (letters : List ℕ) → AfterLookahead S k letters (reply_text reply ++ walk_on table left letters)
+    opened_goes e letters = elim some_start [
+      | inl h ↦ rw (said, state, opened_text h.0 h.1 bytes room letters) (walked h.0 h.1)
+      | inr none ↦ absurd (true≢false (sym (ap is_refusal (none_refused none)) ∙ e))
+    ]
 
-    pub opened_ends : is_refusal reply ≡ true → Laid (AfterLookahead S k) old at r out (λ letters. [])
-    opened_ends e = record { text = reply_text reply; put = p; follows = λ letters. go letters some_start }
-      where
-        go : (letters : List ℕ) → ((s : ℕ) × (S.initial s ≡ true)) ⊎ ((s : ℕ) → S.initial s ≡ false)
-            → AfterLookahead S k letters (reply_text reply ++ [])
-        go letters (inl (s, i)) = absurd (some_taken s i e)
-        go letters (inr none) = rw (append-nil, none_refused none) (no_start none)
+    pub opened_ends : is_refusal reply ≡ true → (letters : List ℕ) → AfterLookahead S k letters (reply_text reply)
+    opened_ends e letters = elim some_start [
+      | inl h ↦ absurd (some_taken h.0 h.1 e)
+      | inr none ↦ rw (none_refused none) (no_start none)
+    ]
+
+-- what is taken is not refused
+pub taken_goes : (x : Option Resolution) → is_refusal (said (Ok x)) ≡ false
+taken_goes (Some x) = refl
+taken_goes None = refl

@@ -8,13 +8,15 @@ use native.Mathlib.Omega.{arith}
 use lib.ListN.{length, get_or, take, drop, length-append}
 use lib.Seq.{take-suc, take_all, take_at, length-take-le}
 use borrow.Author.Tests.{ne_eqb}
+use Rattle.std.proofs.lemmas.Bool.Decides.{nat_tests}
 use Rattle.records.specs.Bytes.{decode}
 use Rattle.predictor.specs.Calls.{end_refusal, ended}
-use Rattle.slices.specs.Appending.{Room, Appended}
+use Rattle.slices.specs.declared.Filling.{Filling}
+use Rattle.slices.specs.Filling.{HasRoom, Puts}
+use Rattle.slices.proofs.Putting.{puts_long, puts_none, puts_on}
 use Rattle.lines.specs.Lines.{refused_line, open_line}
 use Rattle.text.specs.Report.{open_lines, open_text}
 use Rattle.text.specs.Calls.{most_sets, open_width, open_on}
-use Rattle.slices.proofs.Appending.{appended_none, appended_on, appended_long}
 use Rattle.lines.proofs.Widths.{open_width_lem}
 
 open_snoc : (first : ℕ) (sets : List ℕ) (set : ℕ)
@@ -26,45 +28,47 @@ open_snoc first (x ∷ sets) set =
     rw (e, open_snoc (suc first) sets set, append_assoc)
 
 -- the lines of the first i sets
-pub record Lined (first : ℕ) (sets old : List ℕ) (i : ℕ) (out : List ℕ) (at : ℕ) : Type 0 where
-  pub put : Appended old 0 (open_lines first (take i sets)) at out
-  pub few : at ≤ open_width * i
+pub record Lined (first : ℕ) (sets : List ℕ) (old : Filling) (i : ℕ) (new : Filling) : Type 0 where
+  pub put : Puts old (open_lines first (take i sets)) new
+  pub few : new.at ≤ old.at + open_width * i
 
-pub lined_none : (first : ℕ) (sets old : List ℕ) → Lined first sets old 0 old 0
+pub lined_none : (first : ℕ) (sets : List ℕ) (old : Filling) → old.at ≤ length old.out.now → Lined first sets old 0 old
 unfolding open_lines
-lined_none first sets old = record { put = appended_none 0 (omega arith); few = omega arith }
+lined_none first sets old h = record { put = puts_none old h; few = omega arith }
 
-module _ {first : ℕ} {sets old : List ℕ} {i : ℕ} {out : List ℕ} {at : ℕ} (l : Lined first sets old i out at) where
-  pub lined_room : i < length sets → open_width * length sets ≤ length old → first + i < 2 ^ 64
-      → Room out at (open_line (first + i) (get_or sets i 0))
-  lined_room h g f = record { fits = omega (arith, l.few, appended_long l.put, open_width_lem (first + i) (get_or sets i 0) f) }
+module _ {first : ℕ} {sets : List ℕ} {old : Filling} {i : ℕ} {new : Filling} (l : Lined first sets old i new) where
+  pub lined_room : i < length sets → old.at + open_width * length sets ≤ length old.out.now → first + i < 2 ^ 64
+      → HasRoom new (open_line (first + i) (get_or sets i 0))
+  lined_room h g f =
+      record { fits = omega (arith, l.few, puts_long l.put, open_width_lem (first + i) (get_or sets i 0) f) }
 
-  pub lined_next : i < length sets → first + i < 2 ^ 64 → {r : ℕ} {out' : List ℕ}
-      → Appended out at (open_line (first + i) (get_or sets i 0)) r out'
-      → Lined first sets old (i + 1) out' r
-  lined_next h f {r} p =
+  pub lined_next : i < length sets → first + i < 2 ^ 64 → {after : Filling} → Puts new (open_line (first + i) (get_or sets i 0)) after
+      → Lined first sets old (i + 1) after
+  lined_next h f p =
       let e : open_lines first (take (i + 1) sets) ≡ open_lines first (take i sets) ++ open_line (first + i) (get_or sets i 0) =
       rw (add-one, take-suc sets i 0 h, open_snoc first (take i sets) (get_or sets i 0), length-take-le i sets (omega arith)) in
-      record { put = rw e (appended_on l.put p); few = omega (arith, l.few, p.end, open_width_lem (first + i) (get_or sets i 0) f) }
+      record { put = rw e (puts_on l.put p); few = omega (arith, l.few, p.end, open_width_lem (first + i) (get_or sets i 0) f) }
 
-  pub lined_all : length sets ≤ i → Appended old 0 (open_lines first sets) at out
+  pub lined_all : length sets ≤ i → Puts old (open_lines first sets) new
   lined_all h = rw (take_all i sets h) at l.put
 
--- what an ending answers, printed
-module _ (table bytes : List ℕ) {old : List ℕ} {r : ℕ} {out : List ℕ} where
-  pub finished_refused : (number : ℕ) → number ≡ end_refusal table bytes most_sets → ¬ (number ≡ 0)
-      → Appended old 0 (refused_line number) r out
-      → Appended old 0 (open_on table bytes) r out
+-- what an ending answers
+module _ (table bytes : List ℕ) where
+  -- there are bytes for a record
+  pub record_long : end_refusal table bytes most_sets ≡ 0 → 8 ≤ length bytes
+  unfolding end_refusal
+  record_long e = grind (arith, nat_tests)
+
+  pub finished_refused : (number : ℕ) → number ≡ end_refusal table bytes most_sets → ¬ (number ≡ 0) → open_on table bytes ≡ refused_line number
   unfolding open_on
-  finished_refused number e n p = rw (← e, ne_eqb number 0 n) p
+  finished_refused number e n = rw (← e, ne_eqb number 0 n)
 
   pub finished_open : end_refusal table bytes most_sets ≡ 0 → (count first : ℕ) (sets rest : List ℕ) → count ≡ length (ended table bytes)
-      → sets ≡ ended table bytes ++ rest → first ≡ (decode bytes).fed + 1 - count → Appended old 0 (open_lines first (take count sets)) r out
-      → Appended old 0 (open_on table bytes) r out
+      → sets ≡ ended table bytes ++ rest → first ≡ (decode bytes).fed + 1 - count → open_on table bytes ≡ open_lines first (take count sets)
   unfolding open_on open_text
-  finished_open z count first sets rest c s f p =
+  finished_open z count first sets rest c s f =
       let e : first ≡ suc (decode bytes).fed - length (ended table bytes) = omega arith in
-      rw (z, open_text, ← e) (rw (s, take_at (ended table bytes) rest count (sym c)) at p)
+      rw (z, open_text, ← e, s, take_at (ended table bytes) rest count (sym c))
 
 -- so many sets at the most
 pub ended_few : (l old sets : List ℕ) {n : ℕ} → sets ≡ l ++ drop (length l) old → length sets ≡ n → length l ≤ n

@@ -1,6 +1,6 @@
 -- What the calls promise: each prints a part of the report; together, on the table and the record that they hand on, they print it whole.
 -- Assumes nothing.
-use Rattle.std.specs.Prelude.{ℕ, ◌+◌, ◌*◌, ◌≤◌, ◌<◌, Bool, true, false, cond, ◌||◌, ◌⊎◌, ◌≡◌, List, [], ◌∷◌, ◌++◌, eqb, ltb, length}
+use Rattle.std.specs.Prelude.{ℕ, ◌+◌, ◌*◌, ◌≤◌, ◌<◌, Bool, true, false, cond, ◌||◌, ◌⊎◌, ◌≡◌, List, [], ◌∷◌, ◌++◌, eqb, ltb, length, Option, None, Some}
 use Rattle.semiautomata.specs.Semiautomaton.{Semiautomaton}
 use Rattle.semiautomata.specs.Sizes.{max_states, max_letters, max_lookahead}
 use Rattle.semiautomata.specs.Predictability.{Lookahead, Unpredictable}
@@ -11,7 +11,7 @@ use Rattle.predictor.specs.Calls.{opened_on, fed_on, end_refusal, ended}
 use Rattle.deciding.specs.Replies.{is_refusal}
 use Rattle.inputs.specs.Inputs.{plan_of, no_plan}
 use Rattle.text.specs.declared.Printed.{Printed}
-use Rattle.text.specs.declared.Printed.TheVariants.{Going, Ended, Short}
+use Rattle.text.specs.declared.Printed.TheVariants.{Going, Ended}
 use Rattle.slices.specs.Appending.{Appended}
 use Rattle.lines.specs.Lines.{refused_line}
 use Rattle.text.specs.Report.{input_letters, open_text, walk_text, Reports}
@@ -67,40 +67,27 @@ FedText table bytes letters rest text = walk_on table bytes (letters ++ rest) �
 
 -- The walk goes on with the record that is left; or a refusal ended it, and its open lines follow; or fewer bytes are lent than the lines
 -- of so many letters may take, and nothing is done.
-abbrev pub FeedsPart : List ℕ → List ℕ → List ℕ → Printed → List ℕ → List ℕ → List ℕ → Type 0
-FeedsPart table bytes letters (Going r) left old out =
+abbrev pub FeedsPart : List ℕ → List ℕ → List ℕ → Option Printed → List ℕ → List ℕ → List ℕ → Type 0
+FeedsPart table bytes letters (Some (Going r)) left old out =
     (letter_width * length letters ≤ length old) × (fed_upto table bytes letters ≡ record { refused = false; left = left })
     × Laid (FedText table bytes letters) old 0 r out (walk_on table left)
-FeedsPart table bytes letters (Ended r) left old out =
+FeedsPart table bytes letters (Some (Ended r)) left old out =
     (letter_width * length letters ≤ length old) × (fed_upto table bytes letters ≡ record { refused = true; left = left })
     × Laid (FedText table bytes letters) old 0 r out (λ rest. open_on table left)
-FeedsPart table bytes letters Short left old out = (length old < letter_width * length letters) × (left ≡ bytes) × (out ≡ old)
+FeedsPart table bytes letters None left old out = (length old < letter_width * length letters) × (left ≡ bytes) × (out ≡ old)
 
 -- How many bytes a call printed.
-abbrev pub printed_of : Printed → ℕ
-printed_of (Going r) = r
-printed_of (Ended r) = r
-printed_of Short = 0
+abbrev pub printed_of : Option Printed → ℕ
+printed_of (Some (Going r)) = r
+printed_of (Some (Ended r)) = r
+printed_of None = 0
 
 -- Ending: all open lines; or fewer bytes are lent than they may take, and nothing is done.
-abbrev pub Finishes : List ℕ → List ℕ → Printed → List ℕ → List ℕ → Type 0
-Finishes table bytes (Going r) old out = ⊥
-Finishes table bytes (Ended r) old out = (open_width * most_sets ≤ length old) × Appended old 0 (open_on table bytes) r out
-Finishes table bytes Short old out = (length old < open_width * most_sets) × (out ≡ old)
+abbrev pub Finishes : List ℕ → List ℕ → Option ℕ → List ℕ → List ℕ → Type 0
+Finishes table bytes (Some r) old out = (open_width * most_sets ≤ length old) × Appended old 0 (open_on table bytes) r out
+Finishes table bytes None old out = (length old < open_width * most_sets) × (out ≡ old)
 
 -- THE FIRST LINES
-
--- The walk goes on with the table and the record that are left, or nothing follows.
-abbrev pub Lays : (List ℕ → List ℕ → Type 0) → List ℕ → ℕ → Printed → List ℕ → List ℕ → List ℕ → Type 0
-Lays says old at (Going r) out table left = Laid says old at r out (walk_on table left)
-Lays says old at (Ended r) out table left = Laid says old at r out (λ letters. [])
-Lays says old at Short out table left = ⊥
-
--- nothing follows
-abbrev pub over : Printed → Bool
-over (Going r) = false
-over (Ended r) = true
-over Short = true
 
 -- What a plan that means S leaves in the lent numbers and bytes: as they were where there is no look-ahead, else its table and what opening
 -- leaves; it is over where opening is refused.
@@ -128,12 +115,12 @@ ReportText input rest text = Told input rest → Reports (input ++ rest) text
 abbrev pub Roomy : List ℕ → List ℕ → List ℕ → Type 0
 Roomy table bytes old = (table_size ≤ length table) × (record_size ≤ length bytes) × (begin_width ≤ length old)
 
-abbrev pub Begins : List ℕ → List ℕ → List ℕ → Printed → List ℕ → List ℕ → List ℕ → List ℕ → Type 0
-Begins input table bytes (Going r) table' left old out =
+abbrev pub Begins : List ℕ → List ℕ → List ℕ → Option Printed → List ℕ → List ℕ → List ℕ → List ℕ → Type 0
+Begins input table bytes (Some (Going r)) table' left old out =
     Roomy table bytes old × LeavesOf input table bytes false table' left
     × Laid (ReportText input) old 0 r out (λ rest. walk_on table' left (input_letters input ++ rest))
-Begins input table bytes (Ended r) table' left old out =
+Begins input table bytes (Some (Ended r)) table' left old out =
     Roomy table bytes old × LeavesOf input table bytes true table' left × Laid (ReportText input) old 0 r out (λ rest. [])
-Begins input table bytes Short table' left old out =
+Begins input table bytes None table' left old out =
     ((ltb (length table) table_size || (ltb (length bytes) record_size || ltb (length old) begin_width)) ≡ true) × (table' ≡ table)
     × (left ≡ bytes) × (out ≡ old)

@@ -1,31 +1,34 @@
 -- The states that some walk reaches, taken one by one from what is to do: seen and not done.
 -- Assumes nothing.
-use Prim.Native.Nat.{ℕ, ◌+◌, ◌-◌, ◌^◌, ◌<◌}
+use Prim.Native.Nat.{ℕ, ◌+◌, ◌^◌, ◌<◌}
 use mathlib.Core.Bool.{Bool, true, false, not, xor, ◌&&◌, false≢true, and-true}
 use mathlib.Core.Path.{◌≡◌, refl, sym, ◌∙◌}
 use mathlib.Core.Logic.{inl, inr}
 use mathlib.Core.List.{List, [], ◌∷◌}
 use native.Mathlib.Omega.{arith}
 use native.Mathlib.Numerals.{add-one}
-use lib.Bits.{bit_and, bit_or, bit_xor, xor_lt, or_lt}
-use lib.Count.{count_trailing_zeros}
+use lib.Bits.{bit_or, bit_xor, xor_lt, or_lt}
 use lib.Dec.{ltb}
 use lib.Pow.{pow_pos}
 use borrow.Author.Tests.{eqb-true, lt-ltb, not-true}
 use Rattle.bitset.specs.Sets.{any, size}
 use Rattle.bitset.specs.Numbers.{has, set_of}
+use Rattle.bitset.specs.Members.{Taken}
 use Rattle.bitset.proofs.Tests.{and_out, or_left, or_right, or_cases, not_so, same_test}
 use Rattle.bitset.proofs.Below.{any_in, any_out, size_fewer}
 use Rattle.bitset.proofs.Bits.{has_or, has_xor, has_empty, some_member, has_set_of, set_of_lt, is_set_of, same_members}
-use Rattle.bitset.proofs.Taking.{Left, left_first, left_next, least_below, least_in, taken, taken_with, taken_all}
+use Rattle.bitset.proofs.Taking.{Left, left_first, left_next, next_below, next_in, taken, taken_with, taken_all}
 use Rattle.semiautomata.specs.Semiautomaton.{Semiautomaton, Within, Path, Accessible, Reached}
 use Rattle.semiautomata.specs.Access.{accessible}
-use Rattle.semiautomata.specs.Successors.{set_at, successors, Fit}
+use Rattle.semiautomata.specs.Successors.{set_at, Fit}
+use Rattle.semiautomata.specs.Means.{means}
+use Rattle.semiautomata.specs.declared.successors.Successors.{Successors}
 use Rattle.walks.specs.Walking.{led_by}
 use Rattle.semiautomata.proofs.Paths.{initial_accessible, accessible_next}
 use Rattle.semiautomata.proofs.Access.{accessible_in, accessible_out}
-use Rattle.semiautomata.proofs.Successors.{edge_out, edge_is, fit_within}
+use Rattle.semiautomata.proofs.BySets.{edge_out, edge_is}
 use Rattle.semiautomata.proofs.Places.{place_fits}
+use Rattle.walks.proofs.Steps.{means_within}
 
 -- FROM ONE STATE, the letters below i
 
@@ -121,13 +124,12 @@ module _ (S : Semiautomaton) where
         unseen : (t : ℕ) → not (has seen t) ≡ true → not (has done t) ≡ true
         unseen t e = rw (not_so (has done t) (λ d. false≢true (sym (not-true (has seen t) e) ∙ r.inside t d)))
 
-  -- where `out` has what the least of the rest leads to, and nothing else
-  pub reaching_next : {seen done rest out : ℕ} → Reaching seen done rest → 0 < rest → out < 2 ^ S.n
-      → ((a t : ℕ) → S.edge (count_trailing_zeros 64 rest) a t ≡ true → has out t ≡ true)
-      → ((t : ℕ) → has out t ≡ true → (a : ℕ) × (S.edge (count_trailing_zeros 64 rest) a t ≡ true))
-      → Reaching (bit_or seen out) done (bit_and rest (rest - 1))
-  reaching_next {seen} {done} {rest} {out} r p fit into from =
-      let z = count_trailing_zeros 64 rest in
+  -- where `out` has what the state taken leads to, and nothing else
+  pub reaching_next : {seen done rest z left out : ℕ} → Reaching seen done rest → Taken rest z left → out < 2 ^ S.n
+      → ((a t : ℕ) → S.edge z a t ≡ true → has out t ≡ true)
+      → ((t : ℕ) → has out t ≡ true → (a : ℕ) × (S.edge z a t ≡ true))
+      → Reaching (bit_or seen out) done left
+  reaching_next {seen} {done} {rest} {z} {left} {out} r p fit into from =
       let was : (q : ℕ) → has seen q ≡ true → has (bit_or seen out) q ≡ true = λ q e. rw has_or (or_left (has seen q) _ e) in
       record {
         left = left_next r.left p;
@@ -136,7 +138,7 @@ module _ (S : Semiautomaton) where
         starts = λ s e. was s (r.starts s e);
         reached = λ q e. elim (or_cases (has seen q) _ (sym (has_or seen out q) ∙ e)) [
           | inl h ↦ r.reached q h
-          | inr h ↦ let (a, d) = from q h in accessible_next {a = a} (r.reached z (r.inside z (least_in r.left p))) d
+          | inr h ↦ let (a, d) = from q h in accessible_next {a = a} (r.reached z (r.inside z (next_in r.left p))) d
         ];
         led = λ q a t e d. elim (or_cases (taken done rest q) _ (sym (taken_with r.left p q) ∙ e)) [
           | inl h ↦ was t (r.led q a t h d)
@@ -146,42 +148,34 @@ module _ (S : Semiautomaton) where
 
 -- OVER SUCCESSOR SETS
 
-module _ {n m starts : ℕ} {sets : List ℕ} (f : Fit n m sets) (h : starts < 2 ^ n) where
-  pub reached_first : Reaching (successors n m starts sets) starts 0 0
+module _ (x : Successors) where
+  pub reached_first : Reaching (means x) x.starts 0 0
   reached_first = record {
-    left = left_first n 0 f.states (pow_pos n);
-    below = h;
+    left = left_first x.n 0 x.fit.states (pow_pos x.n);
+    below = x.starts_fit;
     inside = λ q e. absurd (false≢true (sym (has_empty q) ∙ e));
     starts = λ s e. e;
     reached = initial_accessible;
     led = λ q a t e. absurd (false≢true (sym (rw (has_empty q)) ∙ e));
   }
 
-  pub reached_next : {seen done rest out : ℕ} → Reaching (successors n m starts sets) seen done rest → 0 < rest
-      → out ≡ set_of n (led_by m sets (count_trailing_zeros 64 rest) m)
-      → Reaching (successors n m starts sets) (bit_or seen out) done (bit_and rest (rest - 1))
-  reached_next {rest = rest} {out = out} r p is = reaching_next S r p (rw is (set_of_lt n (led_by m sets z m))) into from
+  pub reached_next : {seen done rest z left out : ℕ} → Reaching (means x) seen done rest → Taken rest z left
+      → out ≡ set_of x.n (led_by x.m x.sets.now z x.m) → Reaching (means x) (bit_or seen out) done left
+  reached_next {z = z} {out = out} r p is = reaching_next (means x) r p (rw is (set_of_lt x.n (led_by x.m x.sets.now z x.m))) into from
     where
-      S : Semiautomaton
-      S = successors n m starts sets
-
-      z : ℕ
-      z = count_trailing_zeros 64 rest
-
-      into : (a t : ℕ) → S.edge z a t ≡ true → has out t ≡ true
+      into : (a t : ℕ) → (means x).edge z a t ≡ true → has out t ≡ true
       into a t e =
-          let (k, g, d) = edge_out n m starts sets z a t e in
-          rw (is, has_set_of, lt-ltb t n ((fit_within n m starts sets f h).to_lt z a t e)) (any_in m _ a g d)
+          let (k, g, d) = edge_out x.n x.m x.starts x.sets.now z a t e in
+          rw (is, has_set_of, lt-ltb t x.n ((means_within x).to_lt z a t e)) (any_in x.m _ a g d)
 
-      from : (t : ℕ) → has out t ≡ true → (a : ℕ) × (S.edge z a t ≡ true)
+      from : (t : ℕ) → has out t ≡ true → (a : ℕ) × ((means x).edge z a t ≡ true)
       from t e =
-          let (_, e) = and_out (ltb t n) _ (rw (is, has_set_of) at e) in
-          let (a, g, d) = any_out m _ e in
-          (a, edge_is n m starts sets z a t (least_below r.left p) g ∙ d)
+          let (_, e) = and_out (ltb t x.n) _ (rw (is, has_set_of) at e) in
+          let (a, g, d) = any_out x.m _ e in
+          (a, edge_is x.n x.m x.starts x.sets.now z a t (next_below r.left p) g ∙ d)
 
-  pub reached_all : {seen done : ℕ} → Reaching (successors n m starts sets) seen done 0 → seen ≡ done
-      → seen ≡ set_of n (accessible (successors n m starts sets))
-  reached_all r e = reaching_all (successors n m starts sets) r (fit_within n m starts sets f h) e
+  pub reached_all : {seen done : ℕ} → Reaching (means x) seen done 0 → seen ≡ done → seen ≡ set_of x.n (accessible (means x))
+  reached_all r e = reaching_all (means x) r (means_within x) e
 
 -- THE MEMBERS OF WHAT IS REACHED
 

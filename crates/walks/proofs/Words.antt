@@ -17,10 +17,12 @@ use Rattle.bitset.proofs.Below.{any_in, with_any, any_cong, any_none}
 use Rattle.bitset.proofs.Bits.{has_empty, has_lt, fits, some_member, set_of_lt, set_of_has, has_set_of, set_of_cong, has_shl}
 use Rattle.semiautomata.specs.Semiautomaton.{Semiautomaton}
 use Rattle.semiautomata.specs.Walks.{spells, step, reach, survivors, walkable, possible}
-use Rattle.semiautomata.specs.Successors.{place, Fit}
+use Rattle.semiautomata.specs.Successors.{set_at}
+use Rattle.semiautomata.specs.Means.{means}
+use Rattle.semiautomata.specs.declared.successors.Successors.{Successors}
 use Rattle.semiautomata.proofs.Computed.{reach_append, walkable_reach}
-use Rattle.semiautomata.proofs.Successors.{edge_is}
-use Rattle.walks.proofs.Steps.{bare, bare_within, step_members}
+use Rattle.semiautomata.proofs.BySets.{edge_is}
+use Rattle.walks.proofs.Steps.{means_within, step_members}
 
 -- a set is empty exactly where its number is 0
 module _ (n : ℕ) (p : ℕ → Bool) {x : ℕ} (e : x ≡ set_of n p) where
@@ -61,14 +63,14 @@ module _ (S : Semiautomaton) (X : ℕ → Bool) (w : List ℕ) (i : ℕ) (h : i 
       (λ r t e. any_in S.n (λ s. reach S X (take i w) s && S.edge s (get_or w i 0) t) s g (and_in _ _ r e)))
 
 -- the same over successor sets and numbers
-pub back_set : (n m : ℕ) (sets : List ℕ) (X : ℕ → Bool) (w : List ℕ) (i here next out : ℕ) → i < length w → get_or w i 0 < m
-    → here ≡ set_of n (reach (bare n m sets) X (take i w)) → next ≡ set_of n (possible (bare n m sets) X w (i + 1))
-    → out ≡ set_of n (λ s. has here s && any n (λ t. has next t && has (get_or sets (place m s (get_or w i 0)) 0) t))
-    → out ≡ set_of n (possible (bare n m sets) X w i)
-back_set n m sets X w i here next out h g e d o =
-    o ∙ set_of_cong n _ _ (λ s k. rw (e, has_set_of, lt-ltb s n k, ← possible_back (bare n m sets) X w i h s k)
-    (ap (λ (b : Bool). reach (bare n m sets) X (take i w) s && b)
-    (any_cong n _ _ (λ t l. rw (d, has_set_of, lt-ltb t n l, add-one, edge_is n m 0 sets s (get_or w i 0) t k g)))))
+pub back_set : (x : Successors) (X : ℕ → Bool) (w : List ℕ) (i here next out : ℕ) → i < length w → get_or w i 0 < x.m
+    → here ≡ set_of x.n (reach (means x) X (take i w)) → next ≡ set_of x.n (possible (means x) X w (i + 1))
+    → out ≡ set_of x.n (λ s. has here s && any x.n (λ t. has next t && has (set_at x.m x.sets.now s (get_or w i 0)) t))
+    → out ≡ set_of x.n (possible (means x) X w i)
+back_set x X w i here next out h g e d o =
+    o ∙ set_of_cong x.n _ _ (λ s k. rw (e, has_set_of, lt-ltb s x.n k, ← possible_back (means x) X w i h s k)
+    (ap (λ (b : Bool). reach (means x) X (take i w) s && b)
+    (any_cong x.n _ _ (λ t l. rw (d, has_set_of, lt-ltb t x.n l, add-one, edge_is x.n x.m x.starts x.sets.now s (get_or w i 0) t k g)))))
 
 -- after the last letter, what is reached is possible
 pub possible_last : (S : Semiautomaton) (X : ℕ → Bool) (w : List ℕ) (x : ℕ) → reach S X (take (length w) w) x ≡ possible S X w (length w) x
@@ -80,32 +82,32 @@ possible_last S X w x = rw (drop-length w, and-true)
 abbrev pub alone : ℕ → ℕ
 alone s = (1 * 2 ^ s) % 2 ^ 64
 
-module _ {n m : ℕ} {sets : List ℕ} (f : Fit n m sets) {s : ℕ} (h : s < n) where
+module _ (x : Successors) {s : ℕ} (h : s < x.n) where
   alone_has : (t : ℕ) → has (alone s) t ≡ eqb s t
-  alone_has t = has_shl 64 s t (omega (arith, f.states))
+  alone_has t = has_shl 64 s t (omega (arith, x.fit.states))
 
-  pub alone_lt : alone s < 2 ^ n
-  alone_lt = fits n (alone s) (λ t g. alone_has t ∙ ne_eqb s t (λ e. omega arith))
+  pub alone_lt : alone s < 2 ^ x.n
+  alone_lt = fits x.n (alone s) (λ t g. alone_has t ∙ ne_eqb s t (λ e. omega arith))
 
   module _ (w : List ℕ) where
-    alone_walkable : walkable (bare n m sets) (has (alone s)) w ≡ spells (bare n m sets) w s
+    alone_walkable : walkable (means x) (has (alone s)) w ≡ spells (means x) w s
     unfolding walkable
     alone_walkable = same_test _ _
-        (with_any n _ (λ t g e. let (d, q) = and_out (has (alone s) t) (spells (bare n m sets) w t) e in
+        (with_any x.n _ (λ t g e. let (d, q) = and_out (has (alone s) t) (spells (means x) w t) e in
         rw (eqb-true s t (rw (alone_has t) at d)) q))
-        (λ e. any_in n _ s h (and_in _ _ (alone_has s ∙ eq-eqb s s refl) e))
+        (λ e. any_in x.n _ s h (and_in _ _ (alone_has s ∙ eq-eqb s s refl) e))
 
     -- s can walk the word exactly where the word leads somewhere
-    alone_reach : any n (reach (bare n m sets) (has (alone s)) w) ≡ spells (bare n m sets) w s
-    alone_reach = sym (walkable_reach (bare n m sets) (bare_within f) (has (alone s)) (λ t e. has_lt n (alone s) t alone_lt e) w)
+    alone_reach : any x.n (reach (means x) (has (alone s)) w) ≡ spells (means x) w s
+    alone_reach = sym (walkable_reach (means x) (means_within x) (has (alone s)) (λ t e. has_lt x.n (alone s) t alone_lt e) w)
         ∙ alone_walkable
 
   -- the same of one letter more
-  pub alone_step : (w : List ℕ) {r : ℕ} → r ≡ set_of n (reach (bare n m sets) (has (alone s)) w) → (a : ℕ)
-      → any n (step (bare n m sets) (has r) a) ≡ spells (bare n m sets) (w ++ (a ∷ [])) s
+  pub alone_step : (w : List ℕ) {r : ℕ} → r ≡ set_of x.n (reach (means x) (has (alone s)) w) → (a : ℕ)
+      → any x.n (step (means x) (has r) a) ≡ spells (means x) (w ++ (a ∷ [])) s
   alone_step w e a =
-      rw e (any_cong n _ _ (λ t _. step_members (bare n m sets) _ a t))
-      ∙ rw (reach_append (bare n m sets) (has (alone s)) w (a ∷ [])) at (alone_reach (w ++ (a ∷ [])))
+      rw e (any_cong x.n _ _ (λ t _. step_members (means x) _ a t))
+      ∙ rw (reach_append (means x) (has (alone s)) w (a ∷ [])) at (alone_reach (w ++ (a ∷ [])))
 
 -- WHO CAN WALK A WORD: all the empty one, and any other one by its last letter
 

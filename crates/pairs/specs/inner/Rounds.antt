@@ -1,12 +1,14 @@
 -- What the functions of a round promise each other.
 -- Assumes nothing.
-use Rattle.std.specs.Prelude.{ℕ, suc, ◌^◌, ◌<◌, Bool, true, false, not, ◌&&◌, ◌||◌, ◌⊎◌, ◌≡◌, List, leb, ltb, length, get_or, replicate}
+use Rattle.std.specs.Prelude.{ℕ, suc, ◌^◌, ◌<◌, Bool, true, false, not, ◌&&◌, ◌||◌, ◌⊎◌, ◌≡◌, List, leb, ltb, get_or, replicate}
 use Rattle.bitset.specs.Sets.{any}
 use Rattle.bitset.specs.Numbers.{has, set_of}
 use Rattle.semiautomata.specs.Semiautomaton.{Semiautomaton}
 use Rattle.semiautomata.specs.Walks.{step}
 use Rattle.semiautomata.specs.Sizes.{max_states, max_sets}
-use Rattle.semiautomata.specs.Successors.{successors, set_at, Blank}
+use Rattle.semiautomata.specs.Successors.{set_at, Blank}
+use Rattle.semiautomata.specs.Means.{means}
+use Rattle.semiautomata.specs.declared.successors.Successors.{Successors}
 use Rattle.rows.specs.Rows.{pair, Without}
 use Rattle.rows.specs.Turned.{Turned}
 use Rattle.pairs.specs.Sharing.{leads, Level, LastLevel}
@@ -20,8 +22,8 @@ abbrev pub every_pair : ℕ → List ℕ
 every_pair n = replicate max_states (set_of max_states (λ t. ltb t n))
 
 -- the states below k that letter a leads on
-abbrev pub led_on : (n m : ℕ) (sets : List ℕ) (k a : ℕ) → ℕ
-led_on n m sets k a = set_of k (λ s. any n (has (set_at m sets s a)))
+abbrev pub led_on : Semiautomaton → (k a : ℕ) → ℕ
+led_on S k a = set_of k (λ s. any S.n (S.edge s a))
 
 -- a pair that is looked at and led on to no live pair
 abbrev pub dying : Semiautomaton → List ℕ → List ℕ → ℕ → ℕ → Bool
@@ -40,17 +42,17 @@ pub record Struck (S : Semiautomaton) (alive look struck : List ℕ) (gone k : �
 
 -- the sets F i are paired with the sets G i, for i below k
 pub record Paired (old new : List ℕ) (F G : ℕ → ℕ) (k : ℕ) : Type 0 where
-  pub long : length new ≡ length old
   pub is : (s t : ℕ) → pair new s t ≡ (pair old s t || any k (λ i. has (F i) s && has (G i) t))
 
 -- each pair that some letter leads to s and a state of the set is looked at too
-abbrev pub Woken : (n m : ℕ) (back : List ℕ) (s set : ℕ) (old new : List ℕ) → Type 0
-Woken n m back s set old new = Paired old new (set_at m back s) (λ a. set_of n (step (successors n m 0 back) (has set) a)) m
+abbrev pub Woken : (back : Successors) (s set : ℕ) (old new : List ℕ) → Type 0
+Woken back s set old new =
+    Paired old new (set_at back.m back.sets.now s) (λ a. set_of back.n (step (means back) (has set) a)) back.m
 
 -- each pair that some letter leads to a struck pair of the rows below k is looked at
-pub record Waking (m : ℕ) (back struck look : List ℕ) (k : ℕ) : Type 0 where
-  pub wakes : (s t a x y : ℕ) → s < k → pair struck s t ≡ true → a < m
-      → has (set_at m back s a) x ≡ true → has (set_at m back t a) y ≡ true → pair look x y ≡ true
+pub record Waking (back : Successors) (struck look : List ℕ) (k : ℕ) : Type 0 where
+  pub wakes : (s t a x y : ℕ) → s < k → pair struck s t ≡ true → a < back.m
+      → has (set_at back.m back.sets.now s a) x ≡ true → has (set_at back.m back.sets.now t a) y ≡ true → pair look x y ≡ true
 
 -- A ROUND
 
@@ -62,19 +64,17 @@ pub record Ends (S : Semiautomaton) (j : ℕ) (struck : List ℕ) (gone : ℕ) :
   pub some : ¬ (gone ≡ 0) → (s : ℕ) × (t : ℕ) × (s < S.n) × (t < S.n) × (pair struck s t ≡ true)
 
 -- what holds before each round: what it will strike is known, and the table is turned round once the first is over
-pub record At (n m : ℕ) (sets rows struck back : List ℕ) (gone j : ℕ) : Type 0 where
-  pub wide : length rows ≡ max_states
-  pub level : Level (successors n m 0 sets) j rows
-  pub ends : Ends (successors n m 0 sets) j struck gone
-  pub long : length back ≡ max_sets
+pub record At (x : Successors) (rows struck back : List ℕ) (gone j : ℕ) : Type 0 where
+  pub level : Level (means x) j rows
+  pub ends : Ends (means x) j struck gone
   pub fresh : j ≡ 0 → Blank max_sets back
-  pub turned : 0 < j → Turned n m sets back
+  pub turned : 0 < j → Turned x back
 
 -- after so many rounds the struck pairs are taken out of the rows
-pub record Standing (n m : ℕ) (sets : List ℕ) (rounds : ℕ) (live back struck : List ℕ) : Type 0 where
+pub record Standing (x : Successors) (rounds : ℕ) (live back struck : List ℕ) : Type 0 where
   pub last : ℕ
   pub rows : List ℕ
   pub gone : ℕ
-  pub at : At n m sets rows struck back gone last
-  pub left : Without rows struck live n
+  pub at : At x rows struck back gone last
+  pub left : Without rows struck live x.n
   pub next : rounds ≡ suc last

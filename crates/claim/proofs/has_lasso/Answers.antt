@@ -1,0 +1,12 @@
+use Rattle.bitset.proofs.Bits.{set_of_lt}
+use Rattle.claim.proofs.Claims.{one_lt, loops}
+use Rattle.claim.proofs.has_lasso.Goals as goal
+
+pub reach_by-knots-requires : goal.reach_by-knots-requires
+reach_by-knots-requires c = (one_lt c.args.succ.now c.requires.0 c.singleton.ensures, c.requires.1)
+
+pub comes_back-requires : goal.comes_back-requires
+comes_back-requires c = (rw c.reach_by-knots.ensures (set_of_lt _ _), c.requires.2)
+
+pub returns : goal.returns
+returns c = loops c.args.succ.now c.requires.0 c.singleton.ensures _ _ c.reach_by-knots.ensures c.comes_back.ensures

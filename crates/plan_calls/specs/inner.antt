@@ -1,2 +1,0 @@
--- What only inner functions promise each other.
-pub mod Sizes

@@ -1,0 +1,14 @@
+use Rattle.walks.proofs.Filling.{backed_first, backed_next, here_lt, next_lt, letter_lt}
+use Rattle.walks.proofs.backward.Goals as goal
+
+pub loop-i-init : goal.loop-i-init
+loop-i-init c = let (_, letters, room, came) = c.requires in backed_first letters room came
+
+pub back-requires : goal.back-requires
+back-requires c =
+    let i = c.loop-i.invariant in
+    let h = c.loop-i-test.true in
+    (here_lt i h, letter_lt i h, next_lt i h)
+
+pub loop-i-preserved : goal.loop-i-preserved
+loop-i-preserved c = backed_next c.loop-i.invariant c.loop-i-test.true c.back.ensures
