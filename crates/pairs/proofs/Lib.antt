@@ -4,3 +4,4 @@ pub mod Striking
 pub mod Rounds
 pub mod Notes
 pub mod Timing
+pub mod Starts

@@ -6,15 +6,17 @@ use Rattle.std.proofs.lemmas.List.FromFn.{length-range_with_len, get_or-range_wi
 use Prim.Native.Nat.{ℕ, ◌<◌}
 use mathlib.Core.Bool.{Bool, true, false, not}
 use mathlib.Core.Path.{◌≡◌, sym, ◌∙◌, ap}
-use mathlib.Core.List.{List}
+use mathlib.Core.List.{List, [], ◌∷◌, ◌++◌}
 use native.Mathlib.Omega.{arith}
 use lib.ListN.{length, get_or}
 use Rattle.bitset.specs.Sets.{any}
 use Rattle.bitset.specs.Numbers.{has, set_of}
 use Rattle.bitset.proofs.Below.{any_in, any_none, any_cong}
 use Rattle.semiautomata.specs.Walks.{step, reach}
+use Rattle.semiautomata.specs.Successors.{successors}
 use Rattle.semiautomata.specs.Means.{means}
 use Rattle.semiautomata.specs.declared.successors.Successors.{Successors}
+use Rattle.walks.proofs.Steps.{spells_any}
 use Rattle.walks.proofs.Words.{alone, alone_step}
 use Rattle.simulate.specs.inner.Verdicts.{ends}
 
@@ -34,3 +36,8 @@ none_leads m p false (k, h, leads) =
 pub stuck_ends : (x : Successors) {s : ℕ} → s < x.n → (w : List ℕ) {r : ℕ} → r ≡ set_of x.n (reach (means x) (has (alone s)) w)
     → not (any x.m (λ a. any x.n (step (means x) (has r) a))) ≡ ends (means x) w s
 stuck_ends x h w e = ap not (any_cong x.m _ _ (λ a _. alone_step x h w e a))
+
+-- whatever the initial states are
+pub ends_any : (n m starts other : ℕ) (sets w : List ℕ) (t : ℕ)
+    → ends (successors n m starts sets) w t ≡ ends (successors n m other sets) w t
+ends_any n m starts other sets w t = ap not (any_cong m _ _ (λ a _. spells_any n m starts other sets (w ++ (a ∷ [])) t))

@@ -18,7 +18,7 @@ use Rattle.semiautomata.specs.Means.{means}
 use Rattle.semiautomata.specs.declared.successors.Successors.{Successors}
 use Rattle.semiautomata.proofs.BySets.{fit_within}
 use Rattle.walks.specs.Walking.{Letters, Written}
-use Rattle.walks.proofs.Steps.{reach_any}
+use Rattle.walks.proofs.Steps.{reach_any, possible_any}
 use Rattle.walks.proofs.Words.{some_of, back_set, possible_last}
 use Rattle.walks.proofs.Longest.{longest_at}
 
@@ -143,5 +143,9 @@ module _ {x : Successors} {set : ℕ} {w old : List ℕ} {i : ℕ} {out : List �
       kept = drop-set-lt (suc (length w)) out (i - 1) v (omega arith) ∙ o.kept;
     }
 
-  pub backed_all : i ≤ 0 → Written x.n w (possible (means x) (has set) w) old out
-  backed_all z = record { sets = λ j h. o.written j (omega arith) h; kept = o.kept }
+  pub backed_all : i ≤ 0 → (starts : ℕ) → Written x.n w (possible (successors x.n x.m starts x.sets.now) (has set) w) old out
+  backed_all z starts = record {
+    sets = λ j h. o.written j (omega arith) h
+        ∙ set_of_cong x.n _ _ (λ t _. possible_any x.n x.m x.starts starts x.sets.now (has set) w j t);
+    kept = o.kept;
+  }

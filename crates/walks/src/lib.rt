@@ -1,6 +1,6 @@
-// Walks over successor sets, wherever these stand: in a table or just loaded from a plan. The letters of a word are tested (`letter_off`);
-// one letter forth (`gather`) and back (`back`), a word (`reach_by`, `survivors_with`, `survivors_of`), every position of a word (`trace`),
-// any word from the initial states (`reachable`).
+// Walks over successor sets, wherever these stand (in a table or just loaded from a plan), and whatever the initial states are. The letters
+// of a word are tested (`letter_off`); one letter forth (`gather`) and back (`back`), a word (`reach_by`, `survivors_with`, `survivors_of`),
+// every position of a word (`trace`), any word from the initial states (`reachable`).
 #![tactic(auto)]
 
 ghost use Rattle.std.specs.Prelude.{◌≡◌, ◌&&◌, [], ◌∷◌, ◌++◌, ℕ, suc, ◌^◌, ◌≤◌, ◌<◌, length, get_or, take};
@@ -36,7 +36,9 @@ pub struct Gathered {
 // The step from a set by one letter: what each member leads to is joined, the lowest member first.
 pub fn gather(succ: &Successors, set: u64, letter: usize) -> Gathered
     requires { (set < 2 ^ succ.now.n) × (letter < succ.now.m) }
-    ensures { (result.set ≡ set_of succ.now.n (step (means succ.now) (has set) letter)) × (result.rounds ≡ size succ.now.n (has set)) }
+    ensures { ((starts : ℕ)
+        → result.set ≡ set_of succ.now.n (step (successors succ.now.n succ.now.m starts succ.now.sets.now) (has set) letter))
+        × (result.rounds ≡ size succ.now.n (has set)) }
 {
     let mut out: u64 = 0;
     let mut rounds: u32 = 0;
@@ -65,7 +67,8 @@ fn back(succ: &Successors, set: u64, letter: usize, target: u64) -> u64
 // The states that a word leads to from a set.
 pub fn reach_by(succ: &Successors, set: u64, word: &[u8]) -> u64
     requires { (set < 2 ^ succ.now.n) × Letters succ.now.m word.now }
-    ensures { result ≡ set_of succ.now.n (reach (means succ.now) (has set) word.now) }
+    ensures { (starts : ℕ)
+        → result ≡ set_of succ.now.n (reach (successors succ.now.n succ.now.m starts succ.now.sets.now) (has set) word.now) }
 {
     let mut out = set;
     for letter in word {
@@ -78,7 +81,9 @@ pub fn reach_by(succ: &Successors, set: u64, word: &[u8]) -> u64
 // The members of a set that can walk the word and then one letter more; each is tested, also where it is the only one.
 pub fn survivors_with(succ: &Successors, set: u64, word: &[u8], letter: usize) -> u64
     requires { (set < 2 ^ succ.now.n) × Letters succ.now.m word.now × (letter < succ.now.m) }
-    ensures { result ≡ set_of succ.now.n (survivors (means succ.now) (has set) (word.now ++ (letter ∷ []))) }
+    ensures { (starts : ℕ)
+        → result ≡ set_of succ.now.n (survivors (successors succ.now.n succ.now.m starts succ.now.sets.now) (has set)
+        (word.now ++ (letter ∷ []))) }
 {
     let mut out: u64 = 0;
     for s in Members::of(set) {
@@ -95,7 +100,8 @@ pub fn survivors_with(succ: &Successors, set: u64, word: &[u8], letter: usize) -
 // The members of a set that can walk the word.
 pub fn survivors_of(succ: &Successors, set: u64, word: &[u8]) -> u64
     requires { (set < 2 ^ succ.now.n) × Letters succ.now.m word.now }
-    ensures { result ≡ set_of succ.now.n (survivors (means succ.now) (has set) word.now) }
+    ensures { (starts : ℕ)
+        → result ≡ set_of succ.now.n (survivors (successors succ.now.n succ.now.m starts succ.now.sets.now) (has set) word.now) }
 {
     if word.len() == 0 {
         return set;
@@ -130,7 +136,8 @@ fn backward(succ: &Successors, set: u64, word: &[u8], out: &mut [u64])
     requires { (set < 2 ^ succ.now.n) × Letters succ.now.m word.now × (suc (length word.now) ≤ length out.old)
         × ((i : ℕ) → i ≤ length word.now
         → get_or out.old i 0 ≡ set_of succ.now.n (reach (means succ.now) (has set) (take i word.now))) }
-    ensures { Written succ.now.n word.now (possible (means succ.now) (has set) word.now) out.old out.new }
+    ensures { (starts : ℕ)
+        → Written succ.now.n word.now (possible (successors succ.now.n succ.now.m starts succ.now.sets.now) (has set) word.now) out.old out.new }
 {
     for i in (0..word.len()).rev() {
         out[i] = back(succ, out[i], word[i] as usize, out[i + 1]);
@@ -141,7 +148,8 @@ fn backward(succ: &Successors, set: u64, word: &[u8], out: &mut [u64])
 pub fn trace(succ: &Successors, set: u64, word: &[u8], out: &mut [u64]) -> usize
     requires { (set < 2 ^ succ.now.n) × ¬ (set ≡ 0) × Letters succ.now.m word.now × (suc (length word.now) ≤ length out.old) }
     ensures { (result ≡ longest (successors succ.now.n succ.now.m set succ.now.sets.now) word.now)
-        × Written succ.now.n (take result word.now) (possible (means succ.now) (has set) (take result word.now)) out.old out.new }
+        × ((starts : ℕ) → Written succ.now.n (take result word.now)
+        (possible (successors succ.now.n succ.now.m starts succ.now.sets.now) (has set) (take result word.now)) out.old out.new) }
 {
     let g = forward(succ, set, word, out);
     backward(succ, set, &word[..g], out);

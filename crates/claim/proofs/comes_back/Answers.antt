@@ -19,13 +19,13 @@ returns-then-reach_by-member-ne0 c =
     let left = c.loop-s.invariant.0 in
     let taken = c.in-Some.ensures.steps in
     led_yes _ _ _ (passed_hit left taken _
-    (back_hit c.args.succ.now _ (next_below left taken) c.reach_by.ensures c.if-reach_by-member-ne0.true))
+    (back_hit c.args.succ.now _ (next_below left taken) (c.reach_by.ensures _) c.if-reach_by-member-ne0.true))
 
 pub loop-s-preserved : goal.loop-s-preserved
 loop-s-preserved c =
     let (left, passed) = c.loop-s.invariant in
     let taken = c.in-Some.ensures.steps in
-    let miss = back_miss c.args.succ.now _ (next_below left taken) c.reach_by.ensures c.if-reach_by-member-ne0.false in
+    let miss = back_miss c.args.succ.now _ (next_below left taken) (c.reach_by.ensures _) c.if-reach_by-member-ne0.false in
     (left_next left taken, passed_next left taken miss passed)
 
 pub returns : goal.returns

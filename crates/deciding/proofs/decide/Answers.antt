@@ -36,14 +36,14 @@ pub returns-then-next-eq0 : goal.returns-then-next-eq0
 returns-then-next-eq0 c =
     let a = c.args in
     let s = standing_some a.succ.now a.k a.rec.now c.requires.0 c.stand-here.ensures c.if-here-eq0.false in
-    judged_13 a.succ.now s a.letter (not_full s c.fed_of-fed.ensures c.if-fed-eq-LIMIT.false) c.if-succ-a.false c.gather-next.ensures.0
+    judged_13 a.succ.now s a.letter (not_full s c.fed_of-fed.ensures c.if-fed-eq-LIMIT.false) c.if-succ-a.false (c.gather-next.ensures.0 _)
     c.if-next-eq0.true
 
 pub returns-then-taken-k : goal.returns-then-taken-k
 returns-then-taken-k c =
     let a = c.args in
     let s = standing_some a.succ.now a.k a.rec.now c.requires.0 c.stand-here.ensures c.if-here-eq0.false in
-    judged_nothing a.succ.now s a.letter (not_full s c.fed_of-fed.ensures c.if-fed-eq-LIMIT.false) c.if-succ-a.false c.gather-next.ensures.0
+    judged_nothing a.succ.now s a.letter (not_full s c.fed_of-fed.ensures c.if-fed-eq-LIMIT.false) c.if-succ-a.false (c.gather-next.ensures.0 _)
     c.if-next-eq0.false (omega (arith, c.if-taken-k.true, c.fed_of-fed.ensures))
 
 pub letters_of-requires : goal.letters_of-requires
@@ -62,7 +62,7 @@ due-set-requires c =
     let is = from_is x a.k (decode a.rec.now) s.keeps.last_lt c.base_of-base.ensures fed in (
       from_lt x a.k (decode a.rec.now) s.keeps.last_lt c.base_of-base.ensures fed,
       rw (held, s.long, s.keeps.held_is) (omega (arith, c.if-taken-k.false, fed)),
-      (rw held s.letters, c.if-succ-a.false, c.if-next-eq0.false, reached_from s _ is held a.letter c.gather-next.ensures.0),
+      (rw held s.letters, c.if-succ-a.false, c.if-next-eq0.false, reached_from s _ is held a.letter (c.gather-next.ensures.0 _)),
     )
 
 pub resolve-requires : goal.resolve-requires
@@ -78,6 +78,6 @@ returns c =
     let x = a.succ.now in
     let s = standing_some x a.k a.rec.now c.requires.0 c.stand-here.ensures c.if-here-eq0.false in
     let fed = c.fed_of-fed.ensures in
-    judged_resolved x s a.letter (not_full s fed c.if-fed-eq-LIMIT.false) c.if-succ-a.false c.gather-next.ensures.0 c.if-next-eq0.false
+    judged_resolved x s a.letter (not_full s fed c.if-fed-eq-LIMIT.false) c.if-succ-a.false (c.gather-next.ensures.0 _) c.if-next-eq0.false
     (omega (arith, c.if-taken-k.false, fed)) _ (from_is x a.k (decode a.rec.now) s.keeps.last_lt c.base_of-base.ensures fed)
     c.letters_of.ensures c.due-set.ensures fed _ c.resolve.ensures

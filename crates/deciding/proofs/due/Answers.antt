@@ -20,7 +20,7 @@ returns-then-here-eq1 c =
     let a = c.args in
     let x = a.succ.now in
     let at : ℕ = length a.held.now + 1 - a.k in
-    let here = c.reach_by-here.ensures in
+    let here = c.reach_by-here.ensures x.starts in
     let below : c.reach_by-here.result < 2 ^ x.n = rw here (set_of_lt x.n _) in
     let due : suc (length a.held.now) - a.k ≡ at = omega arith in
     rw due
@@ -33,7 +33,7 @@ survivors_with-requires c =
     let h = a.held.now in
     let at : ℕ = length h + 1 - a.k in
     let inside : at ≤ length h = omega (arith, c.if-k-eq0.false) in (
-      rw c.reach_by-here.ensures (set_of_lt a.succ.now.n _),
+      rw (c.reach_by-here.ensures 0) (set_of_lt a.succ.now.n _),
       rw (part_whole at (length h - at) h (omega arith)) (letters_drop at c.requires.2.0),
       c.requires.2.1,
     )
@@ -46,5 +46,5 @@ returns c =
     let inside : at ≤ length h = omega (arith, c.if-k-eq0.false) in
     let due : suc (length h) - a.k ≡ at = omega arith in
     rw due
-    (due_set (means a.succ.now) (has a.base) h a.letter at inside c.reach_by-here.ensures
-    (rw (part_whole at (length h - at) h (omega arith)) at c.survivors_with.ensures))
+    (due_set (means a.succ.now) (has a.base) h a.letter at inside (c.reach_by-here.ensures _)
+    (rw (part_whole at (length h - at) h (omega arith)) at (c.survivors_with.ensures a.succ.now.starts)))

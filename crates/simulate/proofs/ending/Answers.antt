@@ -17,20 +17,20 @@ pub reach_by-requires : goal.reach_by-requires
 reach_by-requires c = (alone_lt c.args.succ.now (next_below c.loop-s.invariant.0 c.in-Some.ensures.steps), c.requires.1)
 
 pub stuck-requires : goal.stuck-requires
-stuck-requires c = rw c.reach_by.ensures (set_of_lt _ _)
+stuck-requires c = rw (c.reach_by.ensures 0) (set_of_lt _ _)
 
 pub loop-s-preserved-then-stuck : goal.loop-s-preserved-then-stuck
 loop-s-preserved-then-stuck c =
     let (left, picked) = c.loop-s.invariant in
     let taken = c.in-Some.ensures.steps in
-    let ends = c.stuck.ensures ∙ stuck_ends c.args.succ.now (next_below left taken) c.args.word.now c.reach_by.ensures in
+    let ends = c.stuck.ensures ∙ stuck_ends c.args.succ.now (next_below left taken) c.args.word.now (c.reach_by.ensures _) in
     (left_next left taken, picked_with left taken (sym ends ∙ c.if-stuck.true) picked)
 
 pub loop-s-preserved : goal.loop-s-preserved
 loop-s-preserved c =
     let (left, picked) = c.loop-s.invariant in
     let taken = c.in-Some.ensures.steps in
-    let ends = c.stuck.ensures ∙ stuck_ends c.args.succ.now (next_below left taken) c.args.word.now c.reach_by.ensures in
+    let ends = c.stuck.ensures ∙ stuck_ends c.args.succ.now (next_below left taken) c.args.word.now (c.reach_by.ensures _) in
     (left_next left taken, picked_without left taken (sym ends ∙ c.if-stuck.false) picked)
 
 pub returns : goal.returns

@@ -25,4 +25,6 @@ pub gather-requires : goal.gather-requires
 gather-requires c = (step_in c.args.table.now _ c.args.letter c.in_ok-succ.ensures c.if-set-succ-gt1.false, c.if-succ-letter.false)
 
 pub returns : goal.returns
-returns c = step_on _ _ _ c.in_ok-succ.ensures c.if-set-succ-gt1.false c.if-succ-letter.false c.gather.ensures
+returns c =
+    let (set, rounds) = c.gather.ensures in
+    step_on _ _ _ c.in_ok-succ.ensures c.if-set-succ-gt1.false c.if-succ-letter.false (set _, rounds)

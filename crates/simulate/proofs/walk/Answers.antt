@@ -27,4 +27,4 @@ pub returns : goal.returns
 returns c =
     let on = sym c.letter_off.ensures ∙ c.if-letter_off.false in
     let (g, sets) = c.trace-g.ensures in
-    walk_on_lem _ _ _ c.in_ok-succ.ensures c.if-out-word.false on c.if-succ-eq0.false g sets c.trace-g.auto.out
+    walk_on_lem _ _ _ c.in_ok-succ.ensures c.if-out-word.false on c.if-succ-eq0.false g (sets _) c.trace-g.auto.out

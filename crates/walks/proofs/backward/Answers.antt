@@ -1,4 +1,5 @@
-use Rattle.walks.proofs.Filling.{backed_first, backed_next, here_lt, next_lt, letter_lt}
+use Rattle.std.proofs.Common.{arith}
+use Rattle.walks.proofs.Filling.{backed_first, backed_next, backed_all, here_lt, next_lt, letter_lt}
 use Rattle.walks.proofs.backward.Goals as goal
 
 pub loop-i-init : goal.loop-i-init
@@ -12,3 +13,6 @@ back-requires c =
 
 pub loop-i-preserved : goal.loop-i-preserved
 loop-i-preserved c = backed_next c.loop-i.invariant c.loop-i-test.true c.back.ensures
+
+pub returns : goal.returns
+returns c = backed_all c.loop-i.invariant (omega (arith, c.loop-i-test.false))

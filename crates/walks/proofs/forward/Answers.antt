@@ -13,14 +13,14 @@ gather-next-requires c = (rw c.loop-g.invariant.is (set_of_lt _ _), c.requires.2
 pub returns-then-next-eq0 : goal.returns-then-next-eq0
 returns-then-next-eq0 c =
     let i = c.loop-g.invariant in
-    let e = next_set _ _ _ _ c.loop-g-test.true _ _ i.is c.gather-next.ensures.0 in
+    let e = next_set _ _ _ _ c.loop-g-test.true _ _ i.is (c.gather-next.ensures.0 _) in
     (forth_longest i c.requires.0 (λ _. none_of _ _ e c.if-next-eq0.true), forth_written i)
 
 pub loop-g-preserved : goal.loop-g-preserved
 loop-g-preserved c =
     let i = c.loop-g.invariant in
     let h = c.loop-g-test.true in
-    forth_next i (rw length-set c.requires.3) h (next_set _ _ _ _ h _ _ i.is c.gather-next.ensures.0) c.if-next-eq0.false
+    forth_next i (rw length-set c.requires.3) h (next_set _ _ _ _ h _ _ i.is (c.gather-next.ensures.0 _)) c.if-next-eq0.false
 
 pub returns : goal.returns
 returns c =

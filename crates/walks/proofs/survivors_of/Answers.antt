@@ -1,6 +1,5 @@
-use Rattle.semiautomata.specs.Means.{means}
 use Rattle.walks.proofs.Words.{survivors_none}
 use Rattle.walks.proofs.survivors_of.Goals as goal
 
 pub returns-then-word-eq0 : goal.returns-then-word-eq0
-returns-then-word-eq0 c = survivors_none (means c.args.succ.now) _ c.requires.0 c.args.word.now c.if-word-eq0.true
+returns-then-word-eq0 c = λ _. survivors_none _ _ c.requires.0 c.args.word.now c.if-word-eq0.true
