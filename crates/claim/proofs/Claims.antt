@@ -23,7 +23,7 @@ use Rattle.semiautomata.specs.Semiautomaton.{Semiautomaton, Within}
 use Rattle.semiautomata.specs.Predictability.{Critical, fork, member, named, Counts, Lasso}
 use Rattle.semiautomata.specs.Access.{accessible}
 use Rattle.semiautomata.specs.Walks.{reach}
-use Rattle.semiautomata.specs.Successors.{set_at}
+use Rattle.semiautomata.specs.Successors.{set_at, successors}
 use Rattle.semiautomata.specs.Means.{means}
 use Rattle.semiautomata.specs.declared.successors.Successors.{Successors}
 use Rattle.semiautomata.proofs.Paths.{path_join, path_lt, path_letters}
@@ -31,7 +31,7 @@ use Rattle.semiautomata.proofs.Computed.{reach_in, reach_out}
 use Rattle.semiautomata.proofs.Shares.{member_lt}
 use Rattle.semiautomata.proofs.BySets.{edge_is}
 use Rattle.walks.specs.Walking.{Letters}
-use Rattle.walks.proofs.Steps.{means_within}
+use Rattle.walks.proofs.Steps.{means_within, path_any}
 use Rattle.walks.proofs.Words.{alone}
 use Rattle.walks.proofs.Reaching.{reached_in, reached_out}
 use Rattle.lookahead.specs.declared.Evidence.{Evidence}
@@ -155,6 +155,31 @@ module _ (A : Successors) {s : ℕ} (h : s < A.n) {one : ℕ} (o : one ≡ set_o
         b.no_so y l.knot
         (rw (e, has_set_of, lt-ltb l.knot A.n below) (reach_in (means A) W (has one) stem s l.knot one_has l.reached))
         l.back;
+  }
+
+-- WHATEVER THE INITIAL STATES ARE
+
+module _ (A : Successors) where
+  pub led_any : {set : ℕ} {w : List ℕ} {r : Bool} → LedBack (means A) set w r → (starts : ℕ)
+      → LedBack (successors A.n A.m starts A.sets.now) set w r
+  led_any {w = w} l starts = record {
+    yes_so = λ y. let (x, d, p) = l.yes_so y in (x, d, path_any A.n A.m A.starts starts A.sets.now w x x p);
+    no_so = λ y x d p. l.no_so y x d (path_any A.n A.m starts A.starts A.sets.now w x x p);
+  }
+
+  lasso_any : (starts other s : ℕ) (stem cycle : List ℕ) → Lasso (successors A.n A.m starts A.sets.now) s stem cycle
+      → Lasso (successors A.n A.m other A.sets.now) s stem cycle
+  lasso_any starts other s stem cycle l = record {
+    knot = l.knot;
+    reached = path_any A.n A.m starts other A.sets.now stem s l.knot l.reached;
+    back = path_any A.n A.m starts other A.sets.now cycle l.knot l.knot l.back;
+  }
+
+  pub loops_any : {s : ℕ} {stem cycle : List ℕ} {r : Bool} → Loops (means A) s stem cycle r → (starts : ℕ)
+      → Loops (successors A.n A.m starts A.sets.now) s stem cycle r
+  loops_any {s} {stem} {cycle} l starts = record {
+    yes_so = λ y. lasso_any A.starts starts s stem cycle (l.yes_so y);
+    no_so = λ y k. l.no_so y (lasso_any starts A.starts s stem cycle k);
   }
 
 -- THE CLAIM

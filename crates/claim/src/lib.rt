@@ -1,7 +1,8 @@
 // The check of a claim that a plan has no look-ahead: plan bytes and any claim, true, false or nonsense.
 #![tactic(auto)]
 
-ghost use Rattle.std.specs.Prelude.{◌^◌, ◌<◌};
+ghost use Rattle.std.specs.Prelude.{ℕ, ◌^◌, ◌<◌};
+ghost use Rattle.semiautomata.specs.Successors.{successors};
 ghost use Rattle.semiautomata.specs.Means.{means};
 ghost use Rattle.walks.specs.Walking.{Letters};
 ghost use Rattle.plan.specs.Bytes.{asked};
@@ -35,7 +36,7 @@ fn set_named(succ: &Successors, state: u32, letter: u32) -> u64
 // Whether some member of a set is led back to itself by the word.
 fn comes_back(succ: &Successors, set: u64, cycle: &[u8]) -> bool
     requires { (set < 2 ^ succ.now.n) × Letters succ.now.m cycle.now }
-    ensures { LedBack (means succ.now) set cycle.now result }
+    ensures { (starts : ℕ) → LedBack (successors succ.now.n succ.now.m starts succ.now.sets.now) set cycle.now result }
 {
     for s in Members::of(set) {
         let member: u64 = 1 << s;
@@ -49,7 +50,7 @@ fn comes_back(succ: &Successors, set: u64, cycle: &[u8]) -> bool
 // Whether the stem leads from a state to one that the cycle leads back to itself.
 fn has_lasso(succ: &Successors, s: u32, stem: &[u8], cycle: &[u8]) -> bool
     requires { (s < succ.now.n) × Letters succ.now.m stem.now × Letters succ.now.m cycle.now }
-    ensures { Loops (means succ.now) s stem.now cycle.now result }
+    ensures { (starts : ℕ) → Loops (successors succ.now.n succ.now.m starts succ.now.sets.now) s stem.now cycle.now result }
 {
     let knots = walks::reach_by(succ, bitset::singleton(s), stem);
     comes_back(succ, knots, cycle)

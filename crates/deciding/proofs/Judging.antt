@@ -19,6 +19,7 @@ use Rattle.bitset.proofs.Bits.{has_empty, has_high, fits, some_member, set_of_lt
 use Rattle.bitset.proofs.Counts.{ones_size}
 use Rattle.semiautomata.specs.Semiautomaton.{Semiautomaton, Within}
 use Rattle.semiautomata.specs.Walks.{spells, step, reach, survivors, walkable, possible}
+use Rattle.semiautomata.specs.Successors.{successors}
 use Rattle.semiautomata.specs.Means.{means}
 use Rattle.semiautomata.specs.declared.successors.Successors.{Successors}
 use Rattle.streaming.specs.Calls.{Reply, refused, nothing}
@@ -27,10 +28,11 @@ use Rattle.streaming.specs.Streaming.{base, sound, sole_at, resolve, settle, ope
 use Rattle.semiautomata.proofs.Computed.{reach_out, spells_in, reach_append, walkable_reach}
 use Rattle.semiautomata.proofs.Paths.{path_lt}
 use Rattle.streaming.proofs.Streaming.{length_snoc}
-use Rattle.walks.proofs.Steps.{means_within, step_members}
+use Rattle.walks.proofs.Steps.{means_within, possible_any, step_members}
 use Rattle.walks.proofs.Words.{some_of, none_of, possible_last}
 use Rattle.records.specs.Bytes.{decode, tidy}
 use Rattle.deciding.specs.Deciding.{resolving, opening, decision}
+use Rattle.deciding.specs.inner.Parts.{due_after}
 use Rattle.deciding.proofs.Standing.{base_below, Standing}
 
 -- THE POSITION THAT IS DUE
@@ -68,6 +70,13 @@ module _ (S : Semiautomaton) (X : ℕ → Bool) (u : List ℕ) (a : ℕ) where
   pub due_last : {next : ℕ} → next ≡ set_of S.n (reach S X (u ++ (a ∷ [])))
       → next ≡ set_of S.n (possible S X (u ++ (a ∷ [])) (suc (length u)))
   due_last e = e ∙ set_of_cong S.n _ _ (λ t _. rw (take-length (u ++ (a ∷ [])), length_snoc u a) at (possible_last S X (u ++ (a ∷ [])) t))
+
+-- what is due does not depend on the initial states
+pub due_any : (x : Successors) (k base : ℕ) (held : List ℕ) (a : ℕ) {out : ℕ} → out ≡ due_after (means x) k base held a → (starts : ℕ)
+    → out ≡ due_after (successors x.n x.m starts x.sets.now) k base held a
+due_any x k base held a e starts =
+    e ∙ set_of_cong x.n _ _
+    (λ t _. possible_any x.n x.m x.starts starts x.sets.now (has base) (held ++ (a ∷ [])) (suc (length held) - k) t)
 
 -- one member of a set below n, among 64
 sole_wide : (n : ℕ) (p : ℕ → Bool) → n ≤ 64 → (x : ℕ) → Sole n p x → Sole 64 (has (set_of n p)) x

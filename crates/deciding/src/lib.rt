@@ -2,9 +2,10 @@
 // opening and to a letter, the possible states of what is open. Nothing of the record is written here.
 #![tactic(auto)]
 
-ghost use Rattle.std.specs.Prelude.{◌≡◌, suc, ◌+◌, ◌^◌, ◌≤◌, ◌<◌, length};
+ghost use Rattle.std.specs.Prelude.{◌≡◌, ℕ, suc, ◌+◌, ◌^◌, ◌≤◌, ◌<◌, length};
 ghost use Rattle.bitset.specs.Numbers.{has, set_of};
 ghost use Rattle.semiautomata.specs.Walks.{reach};
+ghost use Rattle.semiautomata.specs.Successors.{successors};
 ghost use Rattle.semiautomata.specs.Means.{means};
 ghost use Rattle.semiautomata.specs.Sizes.{max_lookahead};
 ghost use Rattle.streaming.specs.PlainWalk.{limit};
@@ -48,7 +49,8 @@ fn base_of(k: usize, starts: u64, fed: usize, last: u8) -> u64
 #[inline(always)]
 fn follow(succ: &Successors, set: u64, word: &[u8]) -> u64
     requires { set < 2 ^ succ.now.n }
-    ensures { result ≡ set_of succ.now.n (reach (means succ.now) (has set) word.now) }
+    ensures { (starts : ℕ)
+        → result ≡ set_of succ.now.n (reach (successors succ.now.n succ.now.m starts succ.now.sets.now) (has set) word.now) }
 {
     if walks::letter_off(word, succ.m as u64) {
         return 0;
@@ -79,7 +81,7 @@ pub fn stand(succ: &Successors, k: usize, rec: &[u8]) -> u64
 // The possible states, once a letter is read behind the held ones and has led to `next`, at the position that k letters then follow.
 fn due(succ: &Successors, k: usize, base: u64, held: &[u8], letter: usize, next: u64) -> u64
     requires { (base < 2 ^ succ.now.n) × (k ≤ suc (length held.now)) × ReadOn (means succ.now) base held.now letter next }
-    ensures { result ≡ due_after (means succ.now) k base held.now letter }
+    ensures { (starts : ℕ) → result ≡ due_after (successors succ.now.n succ.now.m starts succ.now.sets.now) k base held.now letter }
 {
     if k == 0 {
         return next;

@@ -2,10 +2,11 @@
 // look-ahead word). All judge what they are lent first; the walking itself is crate walks'.
 #![tactic(auto)]
 
-ghost use Rattle.std.specs.Prelude.{◌≡◌, not, ◌^◌, ◌<◌};
+ghost use Rattle.std.specs.Prelude.{◌≡◌, not, ℕ, ◌^◌, ◌<◌};
 ghost use Rattle.bitset.specs.Sets.{any};
 ghost use Rattle.bitset.specs.Numbers.{has};
 ghost use Rattle.semiautomata.specs.Walks.{step};
+ghost use Rattle.semiautomata.specs.Successors.{successors};
 ghost use Rattle.semiautomata.specs.Means.{means};
 ghost use Rattle.walks.specs.Walking.{Letters};
 ghost use Rattle.simulate.specs.Stepping.{StepsTo};
@@ -60,7 +61,8 @@ pub fn walk(table: &[u64], word: &[u8], out: &mut [u64]) -> Result<usize, Refusa
 // Whether no letter leads anywhere from a set.
 fn stuck(succ: &Successors, set: u64) -> bool
     requires { set < 2 ^ succ.now.n }
-    ensures { result ≡ not (any succ.now.m (λ a. any succ.now.n (step (means succ.now) (has set) a))) }
+    ensures { (starts : ℕ)
+        → result ≡ not (any succ.now.m (λ a. any succ.now.n (step (successors succ.now.n succ.now.m starts succ.now.sets.now) (has set) a))) }
 {
     (0..succ.m).all(|letter| walks::gather(succ, set, letter).set == 0)
 }
@@ -68,7 +70,7 @@ fn stuck(succ: &Successors, set: u64) -> bool
 // The members of a set that can walk no longer word that begins with this one.
 fn ending(succ: &Successors, set: u64, word: &[u8]) -> u64
     requires { (set < 2 ^ succ.now.n) × Letters succ.now.m word.now }
-    ensures { result ≡ ending_in (means succ.now) set word.now }
+    ensures { (starts : ℕ) → result ≡ ending_in (successors succ.now.n succ.now.m starts succ.now.sets.now) set word.now }
 {
     let mut out: u64 = 0;
     for s in Members::of(set) {
@@ -84,7 +86,7 @@ fn ending(succ: &Successors, set: u64, word: &[u8]) -> u64
 // proper prefix is enough to look at.
 fn judge_set(succ: &Successors, set: u64, word: &[u8]) -> Verdict
     requires { (set < 2 ^ succ.now.n) × Letters succ.now.m word.now }
-    ensures { Computes (means succ.now) (has set) word.now result }
+    ensures { (starts : ℕ) → Computes (successors succ.now.n succ.now.m starts succ.now.sets.now) (has set) word.now result }
 {
     let survivors = walks::survivors_of(succ, set, word);
     match survivors.count_ones() {

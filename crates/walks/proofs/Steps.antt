@@ -1,4 +1,4 @@
--- What one letter does over successor sets; and that a walk from a set does not depend on the initial states.
+-- What one letter does over successor sets; and that a walk does not depend on the initial states.
 -- Assumes nothing.
 use Prim.Native.Nat.{ℕ, ◌<◌}
 use mathlib.Core.Bool.{Bool, ◌&&◌}
@@ -10,7 +10,7 @@ use Rattle.bitset.specs.Numbers.{has, set_of}
 use Rattle.bitset.proofs.Below.{any_cong}
 use Rattle.bitset.proofs.Bits.{has_set_of, set_of_lt, set_of_has, set_of_cong}
 use Rattle.bitset.proofs.Taking.{Left, Joined, joined_all}
-use Rattle.semiautomata.specs.Semiautomaton.{Semiautomaton, Within}
+use Rattle.semiautomata.specs.Semiautomaton.{Semiautomaton, Within, Path}
 use Rattle.semiautomata.specs.Walks.{spells, step, reach, survivors, possible}
 use Rattle.semiautomata.specs.Successors.{set_at, successors}
 use Rattle.semiautomata.specs.Means.{means}
@@ -39,6 +39,11 @@ pub spells_any : (n m starts other : ℕ) (sets w : List ℕ) (s : ℕ)
 unfolding spells
 spells_any n m starts other sets [] s = refl
 spells_any n m starts other sets (a ∷ w) s = any_cong n _ _ (λ r h. rw (spells_any n m starts other sets w r))
+
+pub path_any : (n m starts other : ℕ) (sets w : List ℕ) (s t : ℕ)
+    → Path (successors n m starts sets) s w t → Path (successors n m other sets) s w t
+path_any n m starts other sets [] s t p = p
+path_any n m starts other sets (a ∷ w) s t (r, e, p) = (r, e, path_any n m starts other sets w r t p)
 
 pub survivors_any : (n m starts other : ℕ) (sets : List ℕ) (X : ℕ → Bool) (w : List ℕ) (s : ℕ)
     → survivors (successors n m starts sets) X w s ≡ survivors (successors n m other sets) X w s

@@ -1,6 +1,6 @@
-// Walks over successor sets, wherever these stand (in a table or just loaded from a plan), and whatever the initial states are. The letters
-// of a word are tested (`letter_off`); one letter forth (`gather`) and back (`back`), a word (`reach_by`, `survivors_with`, `survivors_of`),
-// every position of a word (`trace`), any word from the initial states (`reachable`).
+// Walks over successor sets, wherever these stand, in a table or just loaded from a plan, and whatever the initial states are. The letters
+// of a word are tested (`letter_off`); one letter forth (`gather`) and back (`back`), a word (`reach_by`, `survivors_with`,
+// `survivors_of`), every position of a word (`trace`), any word from the initial states (`reachable`).
 #![tactic(auto)]
 
 ghost use Rattle.std.specs.Prelude.{◌≡◌, ◌&&◌, [], ◌∷◌, ◌++◌, ℕ, suc, ◌^◌, ◌≤◌, ◌<◌, length, get_or, take};
@@ -137,7 +137,8 @@ fn backward(succ: &Successors, set: u64, word: &[u8], out: &mut [u64])
         × ((i : ℕ) → i ≤ length word.now
         → get_or out.old i 0 ≡ set_of succ.now.n (reach (means succ.now) (has set) (take i word.now))) }
     ensures { (starts : ℕ)
-        → Written succ.now.n word.now (possible (successors succ.now.n succ.now.m starts succ.now.sets.now) (has set) word.now) out.old out.new }
+        → Written succ.now.n word.now (possible (successors succ.now.n succ.now.m starts succ.now.sets.now) (has set) word.now)
+        out.old out.new }
 {
     for i in (0..word.len()).rev() {
         out[i] = back(succ, out[i], word[i] as usize, out[i + 1]);

@@ -2,7 +2,7 @@ use Rattle.std.proofs.Common.{arith}
 use Rattle.bitset.proofs.Taking.{left_next, next_below, passed_next, passed_hit, passed_all}
 use Rattle.walks.proofs.Steps.{means_within}
 use Rattle.walks.proofs.Words.{alone_lt}
-use Rattle.claim.proofs.Claims.{back_hit, back_miss, led_yes, led_no}
+use Rattle.claim.proofs.Claims.{back_hit, back_miss, led_yes, led_no, led_any}
 use Rattle.claim.proofs.comes_back.Goals as goal
 
 pub overflow_shl-member : goal.overflow_shl-member
@@ -18,8 +18,9 @@ pub returns-then-reach_by-member-ne0 : goal.returns-then-reach_by-member-ne0
 returns-then-reach_by-member-ne0 c =
     let left = c.loop-s.invariant.0 in
     let taken = c.in-Some.ensures.steps in
-    led_yes _ _ _ (passed_hit left taken _
-    (back_hit c.args.succ.now _ (next_below left taken) (c.reach_by.ensures _) c.if-reach_by-member-ne0.true))
+    led_any c.args.succ.now
+    (led_yes _ _ _ (passed_hit left taken _
+    (back_hit c.args.succ.now _ (next_below left taken) (c.reach_by.ensures _) c.if-reach_by-member-ne0.true)))
 
 pub loop-s-preserved : goal.loop-s-preserved
 loop-s-preserved c =
@@ -31,4 +32,5 @@ loop-s-preserved c =
 pub returns : goal.returns
 returns c =
     let (left, passed) = c.loop-s.invariant in
-    led_no _ _ _ (means_within c.args.succ.now) left.whole (passed_all left c.in-None.ensures.steps.0 passed)
+    led_any c.args.succ.now
+    (led_no _ _ _ (means_within c.args.succ.now) left.whole (passed_all left c.in-None.ensures.steps.0 passed))

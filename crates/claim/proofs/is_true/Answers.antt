@@ -30,5 +30,5 @@ pub returns : goal.returns
 returns c =
     claimed_answer (means_within c.args.succ.now) c.args.claim c.args.letters.now c.set_named-set.ensures
     c.contains.ensures c.contains-2.ensures c.if-t-s.false c.if-cycle-succ.false
-    (rw (c.split_at.ensures.front, c.split_at.ensures.back) at c.has_lasso.ensures)
-    (rw (c.split_at.ensures.front, c.split_at.ensures.back) at c.has_lasso-2.ensures)
+    (rw (c.split_at.ensures.front, c.split_at.ensures.back) at (c.has_lasso.ensures c.args.succ.now.starts))
+    (rw (c.split_at.ensures.front, c.split_at.ensures.back) at (c.has_lasso-2.ensures c.args.succ.now.starts))

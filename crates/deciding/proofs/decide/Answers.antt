@@ -80,4 +80,4 @@ returns c =
     let fed = c.fed_of-fed.ensures in
     judged_resolved x s a.letter (not_full s fed c.if-fed-eq-LIMIT.false) c.if-succ-a.false (c.gather-next.ensures.0 _) c.if-next-eq0.false
     (omega (arith, c.if-taken-k.false, fed)) _ (from_is x a.k (decode a.rec.now) s.keeps.last_lt c.base_of-base.ensures fed)
-    c.letters_of.ensures c.due-set.ensures fed _ c.resolve.ensures
+    c.letters_of.ensures (c.due-set.ensures _) fed _ c.resolve.ensures

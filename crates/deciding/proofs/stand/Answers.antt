@@ -21,4 +21,4 @@ returns c =
     let a = c.args in
     let passed = rw (c.fed_of-fed.ensures, c.held_of-held.ensures) at (sym c.is_regular.ensures ∙ c.if-not-is_regular.false) in
     standing_walked a.succ.now a.k a.rec.now c.requires (sym c.is_tidy.ensures ∙ c.if-not-is_tidy.false) passed
-    c.base_of-base.ensures c.fed_of-fed.ensures c.letters_of.ensures c.follow.ensures
+    c.base_of-base.ensures c.fed_of-fed.ensures c.letters_of.ensures (c.follow.ensures _)

@@ -10,6 +10,7 @@ loop-letter-preserved c =
     let paired = c.loop-letter.invariant in
     elim c.if-firsts-ne0.branch [
       | then-firsts-ne0 w ↦
-          rw w.look-is (paired_next (rw (c.of-firsts.ensures, w.gather-seconds.ensures.0 c.args.back.now.starts) at w.pair_up.ensures) paired)
+          let set = w.gather-seconds.ensures.0 c.args.back.now.starts in
+          rw w.look-is (paired_next (rw (c.of-firsts.ensures, set) at w.pair_up.ensures) paired)
       | else-firsts-ne0 w ↦ rw w.look-is (paired_none (rw c.of-firsts.ensures at w.if-firsts-ne0.false) paired)
     ]

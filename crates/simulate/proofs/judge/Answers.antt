@@ -21,4 +21,4 @@ pub judge_set-requires : goal.judge_set-requires
 judge_set-requires c = (c.in_ok-set.ensures.0, letters_below _ _ (sym c.letter_off.ensures ∙ c.if-letter_off.false))
 
 pub returns : goal.returns
-returns c = judge_told _ _ _ _ c.in_ok-succ.ensures (sym c.letter_off.ensures ∙ c.if-letter_off.false) c.in_ok-set.ensures c.judge_set.ensures
+returns c = judge_told _ _ _ _ c.in_ok-succ.ensures (sym c.letter_off.ensures ∙ c.if-letter_off.false) c.in_ok-set.ensures (c.judge_set.ensures _)
