@@ -1,6 +1,6 @@
 // Plan bytes (document 01; edition 2: document 02, W-207): refusals 1 to 7 and 16 are judged while what they mean for a party is loaded
 // as successor sets. Nobody above looks at bytes: `load` gives the semiautomaton that a well-formed plan means for the party, `read` its
-// counts alone; for those who need the lists themselves, `header_of`, `starts_of` and `line_of` give them.
+// counts alone; for those who need the lists themselves, `header_of`, `starts_of` and `Lists` give them.
 #![tactic(auto)]
 
 ghost use Rattle.std.specs.Prelude.{◌≡◌, false, not, ◌&&◌, ◌+◌, ◌≤◌, ◌<◌, ◌^◌, eqb, length};
