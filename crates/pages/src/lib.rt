@@ -26,7 +26,7 @@ const MOST_NEEDS: usize = semiautomata::MAX_SETS + 1;
 
 pub const MAX_PAGE: usize = LINE * MOST_NEEDS;
 
-// The longest bar, of which each is a part: copied, not filled, which takes a tenth of a page's time less.
+// The longest bar, of which each is a part: copied, not filled, which is faster.
 const LONGEST_BAR: usize = 23;
 
 const BAR: [u8; LONGEST_BAR] = [b'#'; LONGEST_BAR];
