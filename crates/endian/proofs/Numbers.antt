@@ -9,6 +9,10 @@ use lib.ListN.{length, get_or, take, drop, replicate, length-take, length-drop, 
 use lib.Seq.{get_or-take, get_or-drop, get_or-append-add}
 use Rattle.endian.specs.Numbers.{number_at, bytes_of}
 
+-- two halves are the whole
+pub halves : (b : List ℕ) (at : ℕ) → number_at b at 2 + 65536 * number_at b (at + 2) 2 ≡ number_at b at 4
+halves b at = let e : at + 2 ≡ at + 1 + 1 = omega arith in rw e (omega arith)
+
 -- behind other bytes
 number_behind : (x : ℕ) (b : List ℕ) (at c : ℕ) → number_at (x ∷ b) (suc at) c ≡ number_at b at c
 number_behind x b at zero = refl

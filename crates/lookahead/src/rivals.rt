@@ -35,6 +35,7 @@ fn pair_forks(rows: &mut [u64; 64], succ: &Successors, q: usize) -> u64
     ensures { Forked succ.now q succ.now.m rows.old rows.new
         × (result ≡ set_of succ.now.n (led_by succ.now.m succ.now.sets.now q succ.now.m)) }
 {
+    let succ = *succ; // by value, so that the loops have its parts at hand
     let mut out: u64 = 0;
     let mut several: u64 = 0;
     for letter in 0..succ.m {

@@ -63,6 +63,7 @@ fn enter_forks(needs: &mut [u16], lifetimes: &[u16; PAIRS], succ: &Successors, r
     requires { succ.now.n * succ.now.m + 1 ≤ length needs.old }
     ensures { ForksEntered lifetimes.now succ.now.m succ.now.sets.now reached 0 (succ.now.n * succ.now.m) needs.old needs.new }
 {
+    let succ = *succ; // by value, so that the loop has its parts at hand
     for q in 0..succ.n {
         let counts = bitset::contains(reached, q as u32);
         for a in 0..succ.m {

@@ -7,15 +7,20 @@ use mathlib.Core.List.{List, [], ◌∷◌, ◌++◌, append_assoc, append-nil}
 use native.Mathlib.Omega.{arith}
 use lib.Dec.{eqb}
 use borrow.Author.Tests.{eq-eqb, ne_eqb}
-use lib.ListN.{length, take, drop, replicate, length-append, length-replicate}
+use lib.ListN.{length, take, drop, replicate, length-append, length-replicate, drop_of_length-le}
 use lib.Seq.{append_snoc, drop-drop}
 use Rattle.decimals.specs.Decimals.{decimal, blanks, right, left}
 use Rattle.decimals.proofs.Digits.{decimal_length}
 use Rattle.decimals.proofs.Columns.{drop_row, right_long, left_long}
 use Rattle.semiautomata.specs.Sizes.{endless, unmeasured}
+use Rattle.slices.specs.Copying.{at_front}
 use Rattle.slices.specs.Filling.{filled}
 use Rattle.semiautomata.specs.Predictability.{Critical, initial, fork}
 use Rattle.pages.specs.Page.{state_text, need_text, longest_bar, bar, label, tail, line, page_line, line_of, shown_of}
+
+-- all columns of a part made blank
+pub made : (xs old : List ℕ) {columns : List ℕ} → length old ≡ length xs → columns ≡ at_front xs old → columns ≡ xs
+made xs old h e = e ∙ rw (drop_of_length-le old {i = length xs} (omega arith), append-nil)
 
 -- THE BAR: signs put over the front of blank columns
 

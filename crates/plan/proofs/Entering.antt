@@ -2,13 +2,14 @@
 -- Assumes nothing.
 use Prim.Native.Nat.{ℕ, suc, ◌+◌, ◌*◌, ◌^◌, ◌%◌, ◌≤◌, ◌<◌, max}
 use mathlib.Core.Bool.{Bool, true, false, not, ◌&&◌, ◌||◌, true≢false, and-true, and-false, or-true, or-false, or_assoc}
-use mathlib.Core.Path.{◌≡◌, refl, sym, ◌∙◌, subst}
-use mathlib.Core.Logic.{◌⊎◌, inl, inr}
+use mathlib.Core.Path.{◌≡◌, refl, sym, ◌∙◌}
+use mathlib.Core.Logic.{inl, inr}
 use mathlib.Core.List.{List}
 use native.Mathlib.Omega.{arith}
 use native.Mathlib.Numerals.{add-one}
 use native.Mathlib.Nat.{lt_of_lt_of_le}
 use native.Mathlib.Decide.{ℕ_discrete}
+use Rattle.std.specs.Prelude.{◌≢◌}
 use lib.Dec.{eqb, ltb, leb}
 use lib.ListN.{length, get_or, set, length-set}
 use lib.Seq.{get_or-set_same, get_or-set_other}
@@ -25,9 +26,12 @@ use Rattle.semiautomata.specs.Successors.{place, Blank}
 use Rattle.semiautomata.proofs.BySets.{place_lt}
 use Rattle.semiautomata.proofs.Places.{size_le, place_same}
 use Rattle.plan.specs.declared.Line.{Line}
+use Rattle.plan.specs.declared.Lines.{Lines}
 use Rattle.plan.specs.Plan.{Plan, says, is_start, semiautomaton, max_party, start_high, start_off, line_fits, line_off, party_high}
+use Rattle.plan.specs.inner.Entering.{NumbersOff, LineEntered}
 use Rattle.plan.specs.inner.Steps.{LinesRead}
 use Rattle.plan.proofs.Tests.{not_and, not_ltb}
+use Rattle.plan.proofs.OneLine.{same_with}
 use Rattle.plan.proofs.Plan.{says_is}
 
 -- the plan with the first i of its starts, or of its lines
@@ -116,20 +120,6 @@ with_line P l sets = set sets (line_place P l) (bit_or (get_or sets (line_place 
 abbrev there_already : Plan → Line → List ℕ → Bool
 there_already P l sets = eqb (bit_or (get_or sets (line_place P l) 0) ((1 * 2 ^ l.to) % 2 ^ 64)) (get_or sets (line_place P l) 0)
 
--- .. exactly if the state is there
-same_with : (v t : ℕ) → t < 64 → eqb (bit_or v ((1 * 2 ^ t) % 2 ^ 64)) v ≡ has v t
-same_with v t h = elim (decided (has v t)) [
-  | inl e ↦ rw e (eq-eqb _ _ (same_members _ _ (λ x. has_insert 64 v t x h ∙ stays e x (decided (eqb t x)))))
-  | inr e ↦ rw e (ne_eqb (bit_or v ((1 * 2 ^ t) % 2 ^ 64)) v (λ d.
-      let member : has (bit_or v ((1 * 2 ^ t) % 2 ^ 64)) t ≡ true = rw (has_insert 64 v t t h, e, eq-eqb t t refl) in
-      let out : has (bit_or v ((1 * 2 ^ t) % 2 ^ 64)) t ≡ false = rw d e in
-      true≢false (sym member ∙ out)))
-]
-  where
-    stays : has v t ≡ true → (x : ℕ) → (eqb t x ≡ true) ⊎ (eqb t x ≡ false) → (has v x || eqb t x) ≡ has v x
-    stays e x (inl d) = let is : t ≡ x = eqb-true t x d in rw (d, ← is, e)
-    stays e x (inr d) = rw (d, or-false)
-
 pub off_test_lem : (P : Plan) (l : Line) → off_test P l ≡ not (line_fits P l)
 off_test_lem P l = simp (not_and, not_ltb, or_assoc)
 
@@ -138,6 +128,18 @@ line_fits_lem P l e =
     let (e, c) = or_none (leb P.n l.from || leb P.m l.letter) _ e in
     let (a, b) = or_none (leb P.n l.from) _ e in
     (leb-false _ _ a, leb-false _ _ b, leb-false _ _ c)
+
+-- a sum is above 0 if one of its parts is
+above_sum : (a b : ℕ) → ltb 0 (a + b) ≡ (ltb 0 a || ltb 0 b)
+above_sum a b = same_test _ _
+    (λ e. elim (decided (ltb 0 a)) [
+      | inl d ↦ rw d
+      | inr d ↦ rw (d, lt-ltb 0 b (omega (arith, ltb-true 0 (a + b) e, ltb-false 0 a d)))
+    ])
+    (λ e. lt-ltb 0 (a + b) (elim (decided (ltb 0 a)) [
+      | inl d ↦ omega (arith, ltb-true 0 a d)
+      | inr d ↦ omega (arith, ltb-true 0 b (rw d at e))
+    ]))
 
 -- the larger of two is above a number if one of them is
 above_max : (c a b : ℕ) → ltb c (max a b) ≡ (ltb c a || ltb c b)
@@ -271,6 +273,54 @@ module _ (P : Plan) (party : ℕ) (states : P.n ≤ 64) (letters : P.m ≤ 32) {
     pub read_next : LinesRead (lines_to (i + 1) P) party (with_line P l sets) (off || off_test P l) (record { twice = again || there_already P l sets; highest = high })
     read_next = rw (larger, is) (lines_next P party states letters w (rw is at e))
 
+-- .. with so many of their numbers off; where none is, all is entered. What a line that is off has entered does not matter
+pub record ReadOn (P : Plan) (party : ℕ) (sets : List ℕ) (off : ℕ) (r : Lines) : Type 0 where
+  pub few : off ≤ 3 * P.e
+  pub off_is : ltb 0 off ≡ line_off P
+  pub entered : off ≡ 0 → LinesRead P party sets false r
+
+pub read_none : (P : Plan) (party : ℕ) {sets : List ℕ} → Blank max_sets sets
+    → ReadOn (lines_to 0 P) party sets 0 (record { twice = false; highest = 0 })
+unfolding any
+read_none P party b = record { few = omega arith; off_is = refl; entered = λ _. lines_none P party b }
+
+-- where no line is off, a line is entered or passed over as its party is
+module _ (P : Plan) (party : ℕ) (states : P.n ≤ 64) (letters : P.m ≤ 32) {i : ℕ} {sets new : List ℕ} {again there : Bool} {highest : ℕ}
+    (w : LinesRead (lines_to i P) party sets false (record { twice = again; highest = highest }))
+    {l : Line} (is : l ≡ P.line i) {high : ℕ} (larger : high ≡ max highest l.party) (on : off_test P l ≡ false)
+    (entered : LineEntered P.m party l sets new there) where
+  abbrev Next : Type 0
+  Next = LinesRead (lines_to (i + 1) P) party new false (record { twice = again || there; highest = high })
+
+  next_over : l.party ≢ party → Next
+  next_over n =
+      let (same, none) = entered.of_another n in
+      rw (same, none, or-false) (rw on at (read_over P party states letters w is larger (rw (on, ne_eqb l.party party n))))
+
+  next_in : l.party ≡ party → Next
+  next_in e =
+      let mine : passed_over P party l ≡ false = rw (on, eq-eqb l.party party e) in
+      let (at, bit) = read_place P party states letters w is larger mine in
+      let (put, was) = entered.of_party at bit e in
+      rw (put, was) (rw (on, same_with _ l.to bit, shl_one 64 l.to bit) at (read_next P party states letters w is larger mine))
+
+  pub entered_next : Next
+  entered_next = elim (ℕ_discrete l.party party) [ yes e ↦ next_in e | no n ↦ next_over n ]
+
+module _ (P : Plan) (party : ℕ) (states : P.n ≤ 64) (letters : P.m ≤ 32) {i : ℕ} {sets new : List ℕ} {off count : ℕ} {again there : Bool}
+    {highest : ℕ} (w : ReadOn (lines_to i P) party sets off (record { twice = again; highest = highest }))
+    {l : Line} (is : l ≡ P.line i) {high : ℕ} (larger : high ≡ max highest l.party) (counted : NumbersOff P.n P.m l count) where
+  pub read_on : LineEntered P.m party l sets new there
+      → ReadOn (lines_to (i + 1) P) party new (off + count) (record { twice = again || there; highest = high })
+  unfolding any
+  read_on put = record {
+    few = omega (arith, w.few, counted.few);
+    off_is = rw add-one (above_sum off count ∙ rw (w.off_is, counted.some, is, off_test_lem P (P.line i)));
+    entered = λ z.
+        let none : count ≡ 0 = omega (arith, z) in
+        entered_next P party states letters (w.entered (omega (arith, z))) is larger (rw none at (sym counted.some)) put;
+  }
+
 -- LINES OF ANOTHER PARTY, where 6 does not apply: they are entered too, and no highest party is kept
 pub record Sought (P : Plan) (party : ℕ) (sets : List ℕ) (again : Bool) : Type 0 where
   pub highest : ℕ
@@ -284,26 +334,14 @@ module _ (P : Plan) (party : ℕ) (states : P.n ≤ 64) (letters : P.m ≤ 32) (
   on_plan : off_test P l ≡ false
   on_plan = rw is (off_test_lem P (P.line i) ∙ any_not P.e (λ i. not (line_fits P (P.line i))) none-off i g)
 
-  -- what is so with the line's test of its numbers is so without
-  untested : {sets : List ℕ} {again : Bool} {high : ℕ}
-      → LinesRead (lines_to (i + 1) P) party sets (off_test P l) (record { twice = again; highest = high })
-      → Sought (lines_to (i + 1) P) party sets again
-  untested {sets} {again} {high} e = record {
-    highest = high;
-    entered =
-        subst (λ (b : Bool). LinesRead (lines_to (i + 1) P) party sets b (record { twice = again; highest = high })) on_plan e;
+  pub sought_over : l.party ≢ party → Sought (lines_to (i + 1) P) party sets again
+  sought_over n = record {
+    highest = max s.highest l.party;
+    entered = rw on_plan at (read_over P party states letters s.entered is refl (rw (on_plan, ne_eqb l.party party n)));
   }
 
-  pub sought_over : ¬ (l.party ≡ party) → Sought (lines_to (i + 1) P) party sets again
-  sought_over n = untested (read_over P party states letters s.entered is refl (rw (on_plan, ne_eqb l.party party n)))
-
-  module _ (e : l.party ≡ party) where
-    here : passed_over P party l ≡ false
-    here = rw (on_plan, eq-eqb l.party party e)
-
-    pub sought_place : (line_place P l < 2048) × (l.to < 64)
-    sought_place = read_place P party states letters s.entered is refl here
-
-    pub sought_next : Sought (lines_to (i + 1) P) party (with_line P l sets)
-        (again || there_already P l sets)
-    sought_next = untested (read_next P party states letters s.entered is refl here)
+  pub sought_next : {new : List ℕ} {there : Bool} → LineEntered P.m party l sets new there → Sought (lines_to (i + 1) P) party new (again || there)
+  sought_next put = record {
+    highest = max s.highest l.party;
+    entered = entered_next P party states letters s.entered is refl on_plan put;
+  }

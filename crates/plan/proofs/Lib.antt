@@ -2,6 +2,7 @@ pub mod Asked
 pub mod Tests
 pub mod Plan
 pub mod Widths
+pub mod OneLine
 pub mod Entering
 pub mod Parting
 pub mod Refusals

@@ -25,10 +25,10 @@ use Rattle.plan.specs.declared.Lines.{Lines}
 use Rattle.plan.specs.Plan.{Plan, is_start, semiautomaton, max_party, start_off, line_off, line_twice, party_high, party_off}
 use Rattle.plan.specs.Asked.{refusal_of}
 use Rattle.plan.specs.Bytes.{header_of, parsed_by, parsed, header_checks, part_checks, asked, counts_of}
-use Rattle.plan.specs.Loading.{Sound, Holds, Loads}
+use Rattle.plan.specs.Loading.{Holds, Loads}
 use Rattle.plan.specs.inner.Steps.{twice_of, StartsEntered, LinesRead}
 use Rattle.semiautomata.proofs.Places.{size_le}
-use Rattle.plan.proofs.Refusals.{number_some, header_clear, named, refused_header, refused_parts, well_formed_range, well_formed_within}
+use Rattle.plan.proofs.Refusals.{number_some, named, refused_header, refused_parts, well_formed_range, well_formed_within}
 use Rattle.plan.proofs.Refusals.{asked_passes}
 use Rattle.plan.proofs.Parting.{twice_parted}
 

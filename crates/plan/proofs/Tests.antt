@@ -12,6 +12,10 @@ pub not_and : (a b : Bool) → not (a && b) ≡ (not a || not b)
 not_and true b = refl
 not_and false b = refl
 
+pub not_or : (a b : Bool) → not (a || b) ≡ (not a && not b)
+not_or true b = refl
+not_or false b = refl
+
 pub not_leb : (a b : ℕ) → not (leb a b) ≡ ltb b a
 not_leb a b = elim (decided (leb a b)) [ inl e ↦ rw (e, le-ltb b a (leb-true a b e)) | inr e ↦ rw (e, lt-ltb b a (leb-false a b e)) ]
 

@@ -15,6 +15,10 @@ width_cases edition Q q r = go (has_parties edition)
     go true = q
     go false = r
 
--- so many lines have at most four times as many bytes
+-- so many lines have at least three times as many bytes
+pub width_over : (edition e : ℕ) → 3 * e ≤ line_width edition * e
+width_over edition e = width_cases edition (λ v. 3 * e ≤ v * e) (omega arith) (omega arith)
+
+-- .. and at most four times as many
 pub width_times : (edition : ℕ) {w : ℕ} → w ≡ line_width edition → (e : ℕ) → w * e ≤ 4 * e
 width_times edition is e = rw is (width_cases edition (λ v. v * e ≤ 4 * e) (omega arith) (omega arith))

@@ -1,2 +1,3 @@
 -- What only inner functions promise each other.
+pub mod Entering
 pub mod Steps

@@ -14,6 +14,7 @@ ghost use Rattle.bitset.specs.Numbers.{set_of};
 ghost use Rattle.semiautomata.specs.Sizes.{max_sets};
 ghost use Rattle.semiautomata.specs.Successors.{Blank, Fit};
 ghost use Rattle.plan.specs.Loading.{Sound, Loads};
+ghost use Rattle.plan.specs.inner.Entering.{NumbersOff, LineEntered};
 ghost use Rattle.plan.specs.inner.Steps.{Finds, StartsEntered, twice_of, LinesEntered};
 
 use refusals::Refusal;
@@ -191,6 +192,31 @@ struct Lines {
     highest: u8,
 }
 
+// How many of a line's three numbers are off. They are counted, which takes no jumps: lines are read equally fast wherever the code lies.
+#[inline(always)]
+fn numbers_off(line: Line, n: u16, m: u16) -> usize
+    ensures { NumbersOff n m line result }
+{
+    usize::from(n <= line.from as u16)
+        + usize::from(m <= line.letter as u16)
+        + usize::from(n <= line.to as u16)
+}
+
+// A line of the party is put into the set at its place, and one of another party changes nothing; whether it stands there already is
+// answered. There are no jumps here either, as the parties of lines come in any order. What is entered of a line that is off is of no use:
+// the remainders keep it among the sets.
+#[inline(always)]
+fn enter_line(sets: &mut [u64; semiautomata::MAX_SETS], m: u16, line: Line, party: u32) -> bool
+    ensures { LineEntered m party line sets.old sets.new result }
+{
+    let place = (line.from as u32 * m as u32 + line.letter as u32) as usize;
+    let set = sets[place % semiautomata::MAX_SETS];
+    let more = set | (1 << (line.to % 64));
+    let mine = line.party as u32 == party;
+    sets[place % semiautomata::MAX_SETS] = if mine { more } else { set };
+    mine & (more == set)
+}
+
 impl<'a> Lists<'a> {
     ghost use Rattle.plan.specs.Listed.{listed};
 
@@ -235,8 +261,7 @@ impl<'a> Lists<'a> {
         Ok(set)
     }
 
-    // Each line of the party whose numbers are below their counts is put into the set at its place, unless it stands there already; or
-    // refusal 6, judged when all lines are read: the loop is faster with no way out.
+    // The lines of the party are entered, or refusal 6, judged when all lines are read: the loop is faster with no way out.
     fn enter_lines(
         &self,
         party: u32,
@@ -246,54 +271,36 @@ impl<'a> Lists<'a> {
         ensures { LinesEntered (listed self.now) party sets.new result }
     {
         let lists = *self; // by value, so that the loop has its parts at hand
-        let n = lists.h.n as usize;
-        let m = lists.h.m as usize;
-        let mut off = false;
+        let mut off: usize = 0;
         let mut twice = false;
         let mut highest: u8 = 0;
         for i in 0..lists.h.e as usize {
             let line = lists.line(i);
-            let from = line.from as usize;
-            let letter = line.letter as usize;
-            let to = line.to as usize;
-            let bad = (n <= from) | (m <= letter) | (n <= to);
-            off |= bad;
+            off += numbers_off(line, lists.h.n, lists.h.m);
+            twice |= enter_line(sets, lists.h.m, line, party);
             highest = highest.max(line.party);
-            if bad | (line.party as u32 != party) {
-                continue;
-            }
-            let place = from * m + letter;
-            let set = sets[place];
-            let more = set | (1 << to);
-            twice |= more == set;
-            sets[place] = more;
         }
-        if off {
+        if off > 0 {
             return Err(Refusal::Line);
         }
         Ok(Lines { twice, highest })
     }
 
     // Whether a line of the party stands twice, where 6 does not apply. It has a loop of its own: so the one that loads has one caller and
-    // is compiled into it, and a plan of edition 1 is read as fast as if there were no parties.
-    fn twice_of(&self, party: u32) -> bool
+    // is compiled into it, and a plan of edition 1 is read as fast as if there were no parties. The party is a byte, as a line has it: that
+    // keeps the code that passes over another party's lines within 16 bytes.
+    fn twice_of(&self, party: u8) -> bool
         requires { line_off (listed self.now) ≡ false }
         ensures { result ≡ twice_of (listed self.now) party }
     {
-        let m = self.h.m as usize;
         let mut sets = [0u64; semiautomata::MAX_SETS];
         let mut again = false;
         for i in 0..self.h.e as usize {
             let line = self.line(i);
-            if line.party as u32 != party {
-                continue;
+            if line.party != party {
+                continue; // of several parties most lines are of others
             }
-            let place = line.from as usize * m + line.letter as usize;
-            let to = line.to as usize;
-            let set = sets[place];
-            let more = set | (1 << to);
-            again |= more == set;
-            sets[place] = more;
+            again |= enter_line(&mut sets, self.h.m, line, party as u32);
         }
         again
     }
@@ -306,7 +313,7 @@ impl<'a> Lists<'a> {
         let mut twice = false;
         for other in 0..highest as u32 + 1 {
             if other != party {
-                twice |= self.twice_of(other);
+                twice |= self.twice_of(other as u8);
             }
         }
         twice

@@ -1,7 +1,7 @@
 -- The layout of a record: its numbers are read back as they are written, and what tidy bytes are.
 -- Assumes nothing.
 use Prim.Native.Nat.{ℕ, ◌+◌, ◌-◌, ◌*◌, ◌/◌, ◌%◌, ◌^◌, ◌≤◌, ◌<◌}
-use mathlib.Core.Bool.{Bool, true, false, not}
+use mathlib.Core.Bool.{Bool, true, false, not, ◌&&◌, ◌||◌}
 use mathlib.Core.Path.{◌≡◌, refl, sym, ◌∙◌, ap}
 use mathlib.Core.List.{List, ◌∷◌, ◌++◌, append_assoc}
 use native.Mathlib.Omega.{arith}
@@ -18,6 +18,18 @@ use Rattle.bitset.proofs.Below.{any_none, any_in, any_not}
 use Rattle.streaming.specs.Streaming.{Rec}
 use Rattle.endian.specs.Numbers.{bytes_of}
 use Rattle.records.specs.Bytes.{held_from, held_count, decode, tidy, encode}
+
+-- a test joined to those that passed
+pub joined : (a b : Bool) → (not a && b) ≡ not (a || not b)
+joined true b = refl
+joined false true = refl
+joined false false = refl
+
+pub and_last : (a b c : Bool) → ((a && b) && c) ≡ (a && (b && (c && true)))
+and_last false b c = refl
+and_last true false c = refl
+and_last true true true = refl
+and_last true true false = refl
 
 -- WRITTEN AND READ BACK
 

@@ -1,6 +1,6 @@
 -- A part of a list, from a place on, that is lent and comes back.
 -- Assumes nothing.
-use Prim.Native.Nat.{ℕ, ◌+◌, ◌≤◌}
+use Prim.Native.Nat.{ℕ, ◌+◌, ◌-◌, ◌≤◌}
 use mathlib.Core.Path.{◌≡◌, sym, ◌∙◌, ap}
 use mathlib.Core.List.{List, [], ◌++◌, append_assoc, append-nil}
 use native.Mathlib.Omega.{arith}
@@ -23,3 +23,7 @@ pub part_pasted : (a w : ℕ) (b ys : List ℕ) → length ys ≡ w → take a b
 part_pasted a w b ys e =
     rw (← e) (ap (λ (l : List ℕ). take a b ++ (ys ++ l)) (drop-drop (length ys) a b)
     ∙ sym (append_assoc (take a b) ys (drop (a + length ys) b)))
+
+-- up to a count
+pub part_first : (a h g : ℕ) (b : List ℕ) → h ≡ g → take (a + h - a) (drop a b) ≡ take g (drop a b)
+part_first a h g b e = let d : a + h - a ≡ g = omega arith in rw d

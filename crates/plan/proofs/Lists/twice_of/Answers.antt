@@ -1,7 +1,7 @@
 -- The lines of the party one by one.
 use Rattle.semiautomata.proofs.Places.{blank}
 use Rattle.plan.specs.Listed.{listed}
-use Rattle.plan.proofs.Entering.{sought_none, sought_over, sought_place, sought_next}
+use Rattle.plan.proofs.Entering.{sought_none, sought_over, sought_next}
 use Rattle.plan.proofs.Lists.twice_of.Goals as goal
 
 pub loop-i-init : goal.loop-i-init
@@ -13,26 +13,8 @@ loop-i-preserved-then-line-party c =
     sought_over (listed c.args.self.now) c.args.party s.states s.letters c.requires c.loop-i-test.true c.loop-i.invariant
     c.line-line.ensures c.if-line-party.true
 
-pub bounds-sets-place : goal.bounds-sets-place
-bounds-sets-place c =
-    let s = c.args.self.now.sound in
-    (sought_place (listed c.args.self.now) c.args.party s.states s.letters c.requires c.loop-i-test.true c.loop-i.invariant
-    c.line-line.ensures c.if-line-party.false).0
-
-pub overflow_shl-more : goal.overflow_shl-more
-overflow_shl-more c =
-    let s = c.args.self.now.sound in
-    (sought_place (listed c.args.self.now) c.args.party s.states s.letters c.requires c.loop-i-test.true c.loop-i.invariant
-    c.line-line.ensures c.if-line-party.false).1
-
-pub bounds-sets-place-in-loop-i : goal.bounds-sets-place-in-loop-i
-bounds-sets-place-in-loop-i c =
-    let s = c.args.self.now.sound in
-    (sought_place (listed c.args.self.now) c.args.party s.states s.letters c.requires c.loop-i-test.true c.loop-i.invariant
-    c.line-line.ensures c.if-line-party.false).0
-
 pub loop-i-preserved : goal.loop-i-preserved
 loop-i-preserved c =
     let s = c.args.self.now.sound in
     sought_next (listed c.args.self.now) c.args.party s.states s.letters c.requires c.loop-i-test.true c.loop-i.invariant
-    c.line-line.ensures c.if-line-party.false
+    c.line-line.ensures c.enter_line-again.ensures
