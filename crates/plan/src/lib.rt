@@ -192,7 +192,8 @@ struct Lines {
     highest: u8,
 }
 
-// How many of a line's three numbers are off. They are counted, which takes no jumps: lines are read equally fast wherever the code lies.
+// How many of a line's three numbers are off. They are counted, which takes no jumps: so the loop that loads is equally fast wherever its
+// code lies.
 #[inline(always)]
 fn numbers_off(line: Line, n: u16, m: u16) -> usize
     ensures { NumbersOff n m line result }
@@ -202,9 +203,9 @@ fn numbers_off(line: Line, n: u16, m: u16) -> usize
         + usize::from(n <= line.to as u16)
 }
 
-// A line of the party is put into the set at its place, and one of another party changes nothing; whether it stands there already is
-// answered. There are no jumps here either, as the parties of lines come in any order. What is entered of a line that is off is of no use:
-// the remainders keep it among the sets.
+// A line of the party is put into the set at its place; whether it stood there already is answered. One of another party changes nothing,
+// and the answer is no. There are no jumps here either, as the parties of lines come in any order. Where a line is off, 6 is found whatever
+// has been entered, and the remainders keep the place among the sets.
 #[inline(always)]
 fn enter_line(sets: &mut [u64; semiautomata::MAX_SETS], m: u16, line: Line, party: u32) -> bool
     ensures { LineEntered m party line sets.old sets.new result }

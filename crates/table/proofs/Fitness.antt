@@ -104,11 +104,11 @@ fitting_fit {table} f =
 pub refused : (table : List ℕ) → (Fitting table → ⊥) → unfit table ≡ true
 refused table h = elim (decided (unfit table)) [ inl e ↦ e | inr e ↦ absurd (h (fitting table e)) ]
 
--- no product of n and n - 1 is too great
 -- no product wraps
 pub cells_le : {table : List ℕ} → Ranged table → states_of table * letters_of table ≤ max_states * max_letters
 cells_le r = mul-le-mul r.states r.letters
 
+-- no product of n and n - 1 is too great
 pub pairs_le : (n : ℕ) → n ≤ max_states → n * (n - 1) ≤ 2 * max_lookahead
 pairs_le n h = let g : n - 1 ≤ 63 = omega arith in mul-le-mul h g
 
